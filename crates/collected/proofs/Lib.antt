@@ -30,6 +30,7 @@ pub mod Received
 pub mod Valued
 pub mod Each
 pub mod Passed
+pub mod Placed
 pub mod Recorded
 pub mod Alone
 pub mod StreamsRun

@@ -8,9 +8,11 @@ use Rattle.join_report.proofs.Steps.{fates}
 use Rattle.join_tale.specs.Bounds.{Bounds}
 use Rattle.join_tale.specs.Keeping.{IsOuterStopped, IsTale}
 use Rattle.join_tale.specs.Steps.{fated}
-use Rattle.join_tale.specs.Tales.{Fate, IsBegun, Tale}
+use Rattle.join_tale.specs.Tales.{FailedSo, Fate, IsBegun, Tale}
 use Rattle.join_tale.specs.Tales.Fate.{Begun, Skipped}
 use Rattle.join_tale.proofs.Steps.{skips}
+use Rattle.res_ledger.specs.declared.event.StreamNo.{StreamNo}
+use Rattle.res_ledger.specs.declared.event.StreamNo.TheVariants.{Inner, Outer}
 use Rattle.run_rules.specs.Facts.{at}
 
 -- so many fates of streams that are passed over
@@ -68,6 +70,11 @@ begun_before t n k e = at_front t.fates n k e
 
 pub begun_still : (t : Tale) (n k : ℕ) → IsBegun t k → IsBegun (longer t n) k
 begun_still t n k e = at_still t.fates n k e
+
+-- the same streams failed
+pub failed_still : (t : Tale) (n : ℕ) (k : StreamNo) → FailedSo t k → FailedSo (longer t n) k
+failed_still t n Outer f = f
+failed_still t n (Inner k) f = f
 
 -- an outer stream is done, or it was stopped
 pub done_or : (h : How) → (h ≡ how.Done) ⊎ (h ≢ how.Done)

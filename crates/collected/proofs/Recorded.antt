@@ -1,5 +1,5 @@
 -- The record of a run tells its tale.
-use Rattle.std.proofs.Common.{◌≡◌, ◌⊎◌, ℕ, zero, suc, ◌+◌, ◌-◌, ◌<◌, true, List, [], ◌∷◌, inl, inr, map, length, take, Some, None, refl, sym, ◌∙◌, ap, subst, ⊎_elim, arith}
+use Rattle.std.proofs.Common.{◌≡◌, ◌⊎◌, ℕ, zero, suc, ◌+◌, ◌-◌, ◌<◌, ◌≤◌, true, List, [], ◌∷◌, inl, inr, map, length, take, Some, None, refl, sym, ◌∙◌, ap, subst, ⊎_elim, arith}
 use Rattle.std.proofs.lemmas.List.{length-map}
 use Rattle.std.specs.Prelude.{slice_index_or}
 use Rattle.std.specs.List.{range_with_len}
@@ -13,10 +13,12 @@ use Rattle.chunk_core.proofs.Bools.{any_at, any_found, itself}
 use Rattle.chunk_core.proofs.Members.{among_cons, among_nil}
 use Rattle.device_port.specs.Device.{DeviceTold}
 use Rattle.device_port.specs.Depot.{DepotTold}
+use Rattle.interrupt_ctx.specs.declared.why.Stop.{Stop}
 use Rattle.join_report.specs.Accounts.{names_below}
 use Rattle.join_report.specs.Reports.{how_of}
 use Rattle.join_report.proofs.Listing.{names_agree}
 use Rattle.join_report.proofs.Steps.{reports_ends}
+use Rattle.join_tale.specs.Bounds.{Bounds}
 use Rattle.join_tale.specs.Ended.{Ended}
 use Rattle.join_tale.specs.Records.{EndedSo, IsRecordOf, bare}
 use Rattle.join_tale.specs.Tales as tales
@@ -31,7 +33,7 @@ use Rattle.res_ledger.specs.declared.event.Event.{Event}
 use Rattle.res_ledger.specs.declared.event.StreamNo.{StreamNo}
 use Rattle.res_ledger.specs.declared.event.StreamNo.TheVariants.{Inner, Outer}
 use Rattle.res_ledger.specs.declared.event.What.TheVariants.{Cancel}
-use Rattle.res_ledger.specs.Ledger.{NotesCancel}
+use Rattle.res_ledger.specs.Ledger.{IsStamped, NotesCancel, NotesClose}
 use Rattle.res_ledger.specs.Streams.{by_stream}
 use Rattle.res_ledger.specs.Whole.{is_cancel}
 use Rattle.res_ledger.proofs.Ledgers.{by_in, by_out}
@@ -41,14 +43,18 @@ use Rattle.run_rules.specs.Facts.{at, has_left}
 use Rattle.run_rules.specs.Work.{RunRecord}
 use Rattle.run_rules.specs.declared.end.EndOf.{EndOf}
 use Rattle.scope_tree.specs.Calls.{Seen}
+use Rattle.stop_places.specs.Places.{ClosedWithin, ClosesBehind}
 use Rattle.tree_families.specs.Families.{Split}
+use Rattle.joined_runs.proofs.PlanBounds.{bounds_are}
 use Rattle.collected.specs.Collected.{IsCollected, IsRunOf}
 use Rattle.dealt_streams.specs.Moves.{lines_of}
 use Rattle.dealt_streams.specs.declared.leftover.Leftover.{Leftover}
 use Rattle.dealt_streams.specs.Parts.{fate_of}
+use Rattle.dealt_streams.specs.Places.{ClosedAs}
 use Rattle.collected.proofs.Each.{share}
 use Rattle.collected.proofs.HeldRows.{count, count_few, leased_below, without}
-use Rattle.collected.proofs.Passed.{begun_before, begun_still, longer, longer_count, longer_report}
+use Rattle.collected.proofs.Passed.{begun_before, begun_still, failed_still, longer, longer_count, longer_report}
+use Rattle.collected.proofs.Placed.{closed_within, closes_as}
 use Rattle.collected.proofs.PlanPlaces.{no_lines}
 use Rattle.collected.proofs.Standing.{begun_at, come_begun}
 
@@ -129,6 +135,22 @@ module _ {S V F : Type 0} (view : S → View V) (told : V → DeviceTold) (P : V
       let i = by_in (Inner k) L f.0 f.1 in
       h.streams.come k (began f.0 k i.0 i.1)
 
+  -- Where the Closes of the roots stand.
+
+  -- a stream whose tree came back closed its root
+  back_closed : (k : ℕ) (y : Seen V) → IsAmong y h.progress.back → y.seat.by ≡ Inner k → NotesClose L (Inner k) 0
+  back_closed k y m by =
+      let r = s.told.back y m in
+      let same : r.0 ≡ k = inner_number r.0 k (sym r.1 ∙ by) in
+      let g = begun_at view told P p d0 now outer b left receiver tale h k (subst (λ j. tales.IsBegun tale j) same ((h.streams.begun r.0).1 r.2)) in
+      (share view told P says p limits d0 now outer b left receiver tale h L s k g.0 g.1 g.2 g.3).closed
+
+  pub obeyed_behind : (k : StreamNo) (w : Stop) → IsAmong (k, w) tale.obeyed → ClosesBehind L k w.at
+  obeyed_behind k w m = closes_as p.max_open (stream_limit p) b h.progress L s (λ n. w.at ≤ n) k (h.places.obeyed k w m)
+
+  pub within_so : (at : ℕ) (k : StreamNo) → ClosedAs b h.progress (λ n. n < at) k → ClosedWithin L k at
+  within_so at k c = closed_within p.max_open (stream_limit p) b h.progress L s back_closed at k c
+
   -- How many streams there are.
 
   abbrev n' : ℕ
@@ -195,4 +217,8 @@ module _ {S V F : Type 0} (view : S → View V) (told : V → DeviceTold) (P : V
       leaves = λ j d. subst (λ E. has_left j E ≡ true) (sym r.events) (left_so j d);
       turns = λ k t. ⊎_elim (λ m. inl (begun_still tale more k ((h.streams.begun k).1 m))) (λ w. inr (h.turns.pulled k w)) (s.turns k (subst (λ E. HadTurn E k) r.events t));
       room = λ k i l w. h.turns.room k i l (s.stood k i l (subst (λ E. WasIn E k i) r.events w));
+      stamped = subst (λ E. IsStamped E) (sym r.events) s.ledger.stamped;
+      behind = λ k w m. subst (λ E. ClosesBehind E k w.at) (sym r.events) (obeyed_behind k w m);
+      failed = λ context w m is. let f = h.places.failed context w m is in (f.0, failed_still tale more f.0 f.1, subst (λ E. ClosedWithin E f.0 w.at) (sym r.events) (within_so w.at f.0 f.2));
+      ended = λ context w m is. let f = h.places.ended context w m is in (f.0, f.1, f.2, ap (λ (z : Bounds). z.until f.0) (bounds_are p lines') ∙ f.3, subst (λ E. ClosedWithin E (Inner f.1) w.at) (sym r.events) (within_so w.at (Inner f.1) f.4));
     }

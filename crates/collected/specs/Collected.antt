@@ -40,6 +40,7 @@ use Rattle.dealt_streams.specs.Kept.{AreKept, Gone, number_of, told_message}
 use Rattle.dealt_streams.specs.Kept.Gone.{Came}
 use Rattle.dealt_streams.specs.Moves.{AreMoved, Move, dealt_of}
 use Rattle.dealt_streams.specs.Parts.{Part, fate_of}
+use Rattle.dealt_streams.specs.Places.{KeepsPlaces}
 use Rattle.dealt_streams.specs.Standing.{StandsOuter}
 use Rattle.dealt_streams.specs.Turns.{KeepsTurns}
 use Rattle.dealt_streams.specs.Works.{plan_bounds}
@@ -81,6 +82,7 @@ module _ {S V F : Type 0} (view : S → View V) (told : V → DeviceTold) (P : V
     pub outer_is : tale.outer ≡ Some outer
     pub settled : IsSettled tale
     pub turns : KeepsTurns progress tale
+    pub places : KeepsPlaces (plan_bounds p) b progress tale
 
 -- all devices that are to go back once the ledger is there: those on the main tree's shelf, and those that are left of the streams
 abbrev pub all_left : {V : Type 0} → (V → DeviceTold) → List (Spent V) → List (Leftover V) → List DeviceTold

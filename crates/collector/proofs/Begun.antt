@@ -61,6 +61,7 @@ use Rattle.collector.specs.Starting.{MakesJob, MayBegin, origin_of}
 use Rattle.collector.specs.Streams.{IsJobOf, KeepsStreams, guest_of}
 use Rattle.collector.specs.Trees.{KeepsTree, waiting_of}
 use Rattle.collector.proofs.Lists.{at_last, map_snoc, snoc_length}
+use Rattle.collector.proofs.Placed.{fails_on, placed_same}
 use Rattle.collector.proofs.Standing.{stands_dealt, stands_on}
 use Rattle.collector.proofs.Steps.{below, counted, dealt_amid, fits_other, given_line, its_spec, lines_on, more_parts, moved_on, seated_out, split_at, split_keeps}
 use Rattle.collector.proofs.Streams.{all_came, streams_begun}
@@ -223,6 +224,7 @@ module _ {S V F D T : Type 0} {M : Members S V F D T} {p : PlanMeant} {d0 : Depo
               (subst (λ z. AreOut b (k.progress.splits ++ split_of a.seat l ∷ []) (map guest_of k.streams.origins ++ z ∷ [])) (sym guest_is) out)
               keeps.given (map waiting_of ws) (suc k.progress.next));
           turns = turns_split k.progress k.tale k.turns (fated k.tale tales.Fate.Begun) refl refl a.seat l (map waiting_of ws) told_open;
+          places = placed_same (plan_bounds p) a b k.progress rest k.tale (fated k.tale tales.Fate.Begun) keeps.noted (λ y z. z) (fails_on k.tale (fated k.tale tales.Fate.Begun) (λ f z. z) (λ o h z. z)) k.places refl refl;
           telling = subst (λ n. KeepsTale p c.outer c.report (with_seat_out c.stops) n s0 m.sink (map fate_of (k.parts ++ x ∷ [])) (fated k.tale tales.Fate.Begun)) (let o : length m.jobs + 1 ≡ length (m.jobs ++ j ∷ []) = omega (arith, jobs) in o)
               (subst (λ fs. KeepsTale p c.outer c.report (with_seat_out c.stops) (length m.jobs + 1) s0 m.sink fs (fated k.tale tales.Fate.Begun)) (sym (map_snoc fate_of k.parts x))
               (tale_begins p c.outer c.report c.stops (length m.jobs) s0 m.sink (map fate_of k.parts) k.tale k.telling (seated_out c.stops k.telling.seated) may));

@@ -4,10 +4,12 @@ use Rattle.std.specs.Prelude.{vec_capacity}
 use Rattle.std.specs.Global.{Global}
 use Rattle.chunk_core.specs.Lists.{IsAmong}
 use Rattle.chunk_core.specs.Lists.IsAmong.{here, there}
+use Rattle.chunk_core.specs.declared.code.Exit.{Exit}
 use Rattle.chunk_core.specs.declared.code.How.{How}
+use Rattle.chunk_core.specs.declared.code.How.TheVariants as how
 use Rattle.chunk_core.proofs.Distinct.{distinct_head}
 use Rattle.chunk_core.proofs.Filters.{among_right}
-use Rattle.chunk_core.proofs.Members.{among_left}
+use Rattle.chunk_core.proofs.Members.{among_last, among_left}
 use Rattle.channel_bounded.specs.Ends.{ReceiverSeen}
 use Rattle.channel_bounded.specs.Streams.{IsWhole}
 use Rattle.channel_bounded.specs.declared.message.Msg.{Msg}
@@ -16,13 +18,18 @@ use Rattle.device_port.specs.Device.{DeviceTold}
 use Rattle.device_port.specs.Sink.{SinkTold}
 use Rattle.interrupt_ctx.specs.Ends.{BoardSeen}
 use Rattle.interrupt_ctx.specs.Views.{interruption}
+use Rattle.interrupt_ctx.specs.declared.why.Stop.{Stop}
+use Rattle.interrupt_ctx.specs.declared.why.Why.TheVariants as why
 use Rattle.join_report.specs.Calls.{EndsStream, after_end}
 use Rattle.join_report.specs.Reports.{HasStream}
 use Rattle.join_report.specs.Stopping.{IsSeated, TellsKnown, view_of, with_seat_in}
 use Rattle.join_report.specs.declared.report.Report.{Report}
 use Rattle.join_report.specs.declared.stops.Stops.{Stops}
-use Rattle.join_report.proofs.Steps.{learns}
-use Rattle.join_tale.specs.Tales.{IsOpen, Tale}
+use Rattle.join_report.proofs.Steps.{heeds as report_heeds, learns}
+use Rattle.join_tale.specs.Keeping.{IsTale}
+use Rattle.join_tale.specs.Steps.{heeded}
+use Rattle.join_tale.specs.Tales.{FailedSo, IsOpen, Tale}
+use Rattle.join_tale.proofs.Heeding.{heeds as tale_heeds}
 use Rattle.join_tree.specs.Given.{GivesMore}
 use Rattle.join_tree.specs.Guests.{AreOut, Guest, IsOut}
 use Rattle.join_tree.specs.Mains.{IsMain}
@@ -31,9 +38,12 @@ use Rattle.join_tree.specs.Progress.{Progress, joining}
 use Rattle.join_tree.specs.Steps.{KeepsRows}
 use Rattle.pipeline_desc.specs.Meant.{PlanMeant, stream_limit}
 use Rattle.pull_stepper.specs.Held.{FinishesDevice}
+use Rattle.res_ledger.specs.declared.event.Event.{Event}
+use Rattle.res_ledger.specs.declared.event.StreamNo.{StreamNo}
 use Rattle.res_ledger.specs.declared.event.StreamNo.TheVariants.{Inner, Outer}
+use Rattle.res_ledger.specs.declared.event.What.TheVariants.{Close}
 use Rattle.row_seat.specs.declared.view.View.{View}
-use Rattle.row_seat.specs.Views.{OthersFit, joined}
+use Rattle.row_seat.specs.Views.{IsFreshStamp, OthersFit, joined}
 use Rattle.scope_tree.specs.Calls.{KeepsScopes, Seen, TakesRoom}
 use Rattle.scope_tree.specs.Trees.{Fits, seen}
 use Rattle.scope_tree.specs.Trace.{owed}
@@ -44,11 +54,16 @@ use Rattle.stream_jobs.specs.declared.job.Job.{Job}
 use Rattle.stream_jobs.specs.declared.job.JobEnd.{JobEnd}
 use Rattle.stream_jobs.specs.Jobs.{EndsJob, FitsJob, IsAt, IsJob, seen_job}
 use Rattle.stream_jobs.specs.Messages.{end_message}
-use Rattle.stream_jobs.specs.Learned.{HasSetFor}
+use Rattle.stream_jobs.specs.Learned.{HasLearned, HasSetFor}
+use Rattle.stream_jobs.specs.Places.{HasPlaces}
 use Rattle.stream_jobs.specs.Running.{Origin}
 use Rattle.stream_jobs.proofs.Others.{others_leave}
+use Rattle.tree_families.specs.Families.{Split}
 use Rattle.collector.specs.declared.collector.Collector.{Collector}
 use Rattle.dealt_streams.specs.declared.leftover.Leftover.{Leftover}
+use Rattle.dealt_streams.specs.Places.{ArePlaced, ClosedAs, KeepsPlaces}
+use Rattle.dealt_streams.specs.Works.{plan_bounds}
+use Rattle.dealt_streams.proofs.Placing.{closed_so, heed, placed_both, placed_heed, placed_job, placed_more, placed_still, placed_until}
 use Rattle.collector.specs.Collecting.{IsCollecting, Moment, having_job}
 use Rattle.collector.specs.declared.waiting.Waiting.{Waiting}
 use Rattle.collector.specs.Members.{Members}
@@ -57,7 +72,7 @@ use Rattle.collector.specs.Streams.{AreJobs, IsJobOf, KeepsStreams, guest_of}
 use Rattle.collector.specs.Trees.{KeepsTree}
 use Rattle.collector.specs.Receiving.{HasGot, StopsThose}
 use Rattle.collector.proofs.EndTaken.{GotAll, behind, got_all, streams_end}
-use Rattle.collector.proofs.EndTold.{EndComes, HasSetOwn, comes, end_sets, is_tale, v}
+use Rattle.collector.proofs.EndTold.{EndComes, HasHeeded, HasSetOwn, comes, end_obeyed, end_sets, has_heeded, is_tale, until_is, v}
 use Rattle.collector.proofs.LoadTaken.{grown}
 use Rattle.collector.proofs.Loads.{wrote_same}
 use Rattle.collector.proofs.Opening.{is_open}
@@ -71,6 +86,17 @@ module _ {V : Type 0} (told : V → DeviceTold) (p : PlanMeant) where
   -- no event and no payload is lost where the tree of a stream comes back
   keeps : (a b : Seen V) (w : View V) → b ≡ record a { seat = joined a.seat w } → KeepsRows a.seat b.seat
   keeps a b w is = subst (λ (x : Seen V). KeepsRows a.seat x.seat) (sym is) (record { noted = λ e m. among_left w.events m; left = λ y m. among_left w.left m; given = λ y m. among_left w.given m; opened = λ y m. inl m })
+
+  -- the tree came back to the main one a, which is b then and may go on so, and these are out still; n events stand in the ledger, with all of b
+  pub record TakesIn (q : Progress V) (ms : List Split) (gs : List Guest) (a : Seen V) (w : View V) (n : ℕ) (b : Seen V) : Type 0 where
+    pub main : IsMain (FinishesDevice told) p.max_open (stream_limit p) b q
+    pub out : AreOut b ms gs
+    pub is : b ≡ record a { seat = joined a.seat w }
+    pub owes : owed b.seat ≡ owed a.seat
+    pub gives : GivesMore [] a b
+    pub scopes : KeepsScopes a b
+    pub room : TakesRoom 0 0 a b
+    pub fresh : IsFreshStamp b.seat n
 
   -- so what is known of the tree stays known
   tree_joined : {waits : ℕ} {a : Seen V} {outer : Option How} {given : OuterSource} {ws : List Waiting} {dealt : ℕ} {q : Progress V} → KeepsTree p told waits a outer given ws dealt q → (b y : Seen V) (w : View V) → b ≡ record a { seat = joined a.seat w } → owed b.seat ≡ owed a.seat
@@ -158,6 +184,9 @@ module _ {S V F D T : Type 0} {M : Members S V F D T} {p : PlanMeant} {d0 : Depo
       end_by : (M.view e.seat).by ≡ Inner w.stream
       end_by = let l = ends.left in ap (λ (x : View V). x.by) l.leaves.seat_is ∙ (same_by (released_follows l.leaves.cancels.left.2) ∙ (l.run.since.alone.by ∙ l.begun.guest.by))
 
+      last_by : ends.left.leaves.last.seat.by ≡ Inner k
+      last_by = sym (ap (λ (x : View V). x.by) ends.left.leaves.seat_is) ∙ (end_by ∙ ap Inner w_is)
+
       module _ (d2 : D) (B : Tree S V D) (back : (o : S) → (M.view o).by ≢ Outer → (M.view o).by ≢ (M.view e.seat).by → M.fits o d1 → M.fits o d2) where
         -- the jobs that are open still
         jobs_on : AreJobs M c.hub c.stops.board d2 i.parts m.jobs os
@@ -177,9 +206,11 @@ module _ {S V F D T : Type 0} {M : Members S V F D T} {p : PlanMeant} {d0 : Depo
         abbrev b : Seen V
         b = seen M.view B
 
-        module _ (main : IsMain (FinishesDevice M.told) p.max_open (stream_limit p) b (joining i.progress ends.left.leaves.last)) (out : AreOut b i.progress.splits (map guest_of os)) (B_is : b ≡ record a { seat = joined a.seat (M.view e.seat) }) (owes : owed b.seat ≡ owed a.seat)
-            (gives : GivesMore [] a b) (scopes : KeepsScopes a b) (room : TakesRoom 0 0 a b) (B_fits : Fits M.view M.fits B d2) (queued : List Msg) (whole : IsWhole e.sender.stream e.sender.sent r.got queued) (L : Vec (Leftover V) Global) (L_is : L.items ≡ c.left.items ++ record { shelf = e.shelf; unopened = e.unopened } ∷ []) (L_room : vec_capacity L ≡ vec_capacity c.left)
-            (report : Report) (reported : EndsStream k h c.report report) (settled : IsSeated (with_seat_in c.stops e.board)) (stops : Stops) (those : StopsThose p k (length p.streams) (with_seat_in c.stops e.board) stops) (seated : IsSeated stops) where
+        module _ (n : ℕ) (taken : TakesIn M.told p (joining i.progress ends.left.leaves.last) i.progress.splits (map guest_of os) a (M.view e.seat) n b) (B_fits : Fits M.view M.fits B d2) (queued : List Msg) (whole : IsWhole e.sender.stream e.sender.sent r.got queued) (L : Vec (Leftover V) Global) (L_is : L.items ≡ c.left.items ++ record { shelf = e.shelf; unopened = e.unopened } ∷ []) (L_room : vec_capacity L ≡ vec_capacity c.left)
+            (report : Report) (reported : EndsStream k h c.report report) (settled : IsSeated (with_seat_in c.stops e.board)) (stops : Stops) (those : StopsThose p k (length p.streams) n (with_seat_in c.stops e.board) stops) (seated : IsSeated stops) where
+          abbrev last : Seen V
+          last = ends.left.leaves.last
+
           whole_had : IsWhole e.sender.stream e.sender.sent (m.receiver.got ++ end_message k h ∷ []) queued
           whole_had = subst (λ (x : ReceiverSeen). IsWhole e.sender.stream e.sender.sent x.got queued) got.is whole
 
@@ -189,19 +220,39 @@ module _ {S V F D T : Type 0} {M : Members S V F D T} {p : PlanMeant} {d0 : Depo
           set_for : HasSetFor k e.board.view (Some h)
           set_for = subst (λ x. HasSetFor k e.board.view (Some x)) all.how_so (subst (λ x. HasSetFor x e.board.view (Some e.how)) w_is ends.learned.set)
 
+          -- what it has set and found, where in the ledger
+          places : HasPlaces k (M.view e.seat) e.board.view h
+          places = subst (λ x. HasPlaces k (M.view e.seat) e.board.view x) all.how_so (subst (λ x. HasPlaces x (M.view e.seat) e.board.view e.how) w_is ends.places)
+
+          learned_so : HasLearned k w.board e.board (Some h)
+          learned_so = subst (λ x. HasLearned k w.board e.board (Some x)) all.how_so (subst (λ x. HasLearned x w.board e.board (Some e.how)) w_is ends.learned)
+
+          abbrev os' : List (StreamNo × Stop)
+          os' = heed k (M.view e.seat) e.board.view h places
+
+          -- the tale that has what the stream obeyed
+          abbrev heard : Tale
+          heard = heeded i.tale os'
+
+          heard_is : IsTale (plan_bounds p) heard
+          heard_is = tale_heeds (plan_bounds p) i.tale i.telling.is_tale os'
+
+          obeyed_so : HasHeeded heard k h e.board.view
+          obeyed_so = has_heeded i.tale k (M.view e.seat) e.board.view h places
+
           -- where one stream is open at a time no seat is out now, and so all that is known is set
-          own_set : HasSetOwn p i.tale k e.board.view
-          own_set one x n =
+          own_set : HasSetOwn p heard k e.board.view
+          own_set one x m =
               let few = i.room.few in
               let seats = i.telling.seats in
               subst (λ l. IsAmong (interruption (suc k) x) (l ++ e.board.view.set)) (sym i.telling.known.set)
-              (settled.settled (omega (arith, few, seats, one)) (suc k) x (inr (among_right (interruption (suc k) x) (view_of c.stops).seen e.board.view.seen n)))
+              (settled.settled (omega (arith, few, seats, one)) (suc k) x (inr (among_right (interruption (suc k) x) (view_of c.stops).seen e.board.view.seen m)))
 
           abbrev tale : Tale
-          tale = v p i.tale k h i.telling.is_tale open_end e.board.view set_for own_set (with_seat_in c.stops e.board) stops those
+          tale = v p heard k h heard_is open_end e.board.view set_for obeyed_so own_set (with_seat_in c.stops e.board) stops n those
 
-          ending : EndComes i.tale (after_end i.tale k h) k h
-          ending = comes p i.tale k h i.telling.is_tale open_end e.board.view set_for own_set (with_seat_in c.stops e.board) stops those
+          ending : EndComes heard (after_end heard k h) k h
+          ending = comes p heard k h heard_is open_end e.board.view set_for obeyed_so own_set (with_seat_in c.stops e.board) stops n those
 
           ending_learned : EndComes i.tale tale k h
           ending_learned = record {
@@ -222,22 +273,50 @@ module _ {S V F D T : Type 0} {M : Members S V F D T} {p : PlanMeant} {d0 : Depo
           abbrev R : ReceiverSeen
           R = record r { closed = r.closed ++ (e.sender.stream, e.sender.sent) ∷ [] }
 
-          R_is : R ≡ behind M i.parts i.progress m.receiver i.tale tale k h ending_learned open_end ends.left.leaves.last e.sender.sent
+          R_is : R ≡ behind M i.parts i.progress m.receiver i.tale tale k h ending_learned open_end last e.sender.sent
           R_is = ap (λ (x : ReceiverSeen). record x { closed = x.closed ++ (e.sender.stream, e.sender.sent) ∷ [] }) got.is ∙ ap (λ j. record (grown m.receiver (end_message k h)) { closed = m.receiver.closed ++ (j, e.sender.sent) ∷ [] }) (ends.sender ∙ w_is)
 
           handed : (z : ℕ × V) → IsAmong z a.seat.given ⊎ IsAmong z ends.left.leaves.last.seat.given → IsAmong z b.seat.given
-          handed z n = subst (λ (u : Seen V). IsAmong z u.seat.given) (sym B_is) (⊎_elim (λ q. among_left (M.view e.seat).given q) (λ q. among_right z a.seat.given (M.view e.seat).given (subst (λ (u : View V). IsAmong z u.given) (sym ends.left.leaves.seat_is) q)) n)
+          handed z n = subst (λ (u : Seen V). IsAmong z u.seat.given) (sym taken.is) (⊎_elim (λ q. among_left (M.view e.seat).given q) (λ q. among_right z a.seat.given (M.view e.seat).given (subst (λ (u : View V). IsAmong z u.given) (sym ends.left.leaves.seat_is) q)) n)
 
-          streams_now : KeepsStreams M c.hub c.stops.board d2 b m.jobs L.items R i.parts (joining i.progress ends.left.leaves.last) tale
-          streams_now = subst (λ l. KeepsStreams M c.hub c.stops.board d2 b m.jobs l R i.parts (joining i.progress ends.left.leaves.last) tale) (sym L_is)
-              (subst (λ x. KeepsStreams M c.hub c.stops.board d2 b m.jobs (c.left.items ++ record { shelf = e.shelf; unopened = e.unopened } ∷ []) x i.parts (joining i.progress ends.left.leaves.last) tale) (sym R_is)
-              (streams_end M i.parts i.progress m.receiver i.tale tale k h ending_learned open_end ends.left.leaves.last e.sender.sent c.hub c.stops.board m.desk d2 a b job m.jobs c.left.items i.streams w os first.2 w_is jobs_on out handed first.3.node first.3.devices e first.3.begun ends all refl ends.left.leaves.seat_is))
+          streams_now : KeepsStreams M c.hub c.stops.board d2 b m.jobs L.items R i.parts (joining i.progress last) tale
+          streams_now = subst (λ l. KeepsStreams M c.hub c.stops.board d2 b m.jobs l R i.parts (joining i.progress last) tale) (sym L_is)
+              (subst (λ x. KeepsStreams M c.hub c.stops.board d2 b m.jobs (c.left.items ++ record { shelf = e.shelf; unopened = e.unopened } ∷ []) x i.parts (joining i.progress last) tale) (sym R_is)
+              (streams_end M i.parts i.progress m.receiver i.tale tale k h ending_learned open_end last e.sender.sent c.hub c.stops.board m.desk d2 a b job m.jobs c.left.items i.streams w os first.2 w_is jobs_on taken.out handed first.3.node first.3.devices e first.3.begun ends all refl ends.left.leaves.seat_is))
 
           known : TellsKnown tale stops
           known = record {
-            set = ap (λ l. l ++ (e.board.view.set ++ those.set)) ((end_sets i.tale k h).0 ∙ i.telling.known.set) ∙ (sym (append_assoc (view_of c.stops).set e.board.view.set those.set) ∙ sym those.learns.set);
-            seen = ap (λ l. l ++ (e.board.view.seen ++ those.seen)) ((end_sets i.tale k h).1 ∙ i.telling.known.seen) ∙ (sym (append_assoc (view_of c.stops).seen e.board.view.seen those.seen) ∙ sym those.learns.seen);
+            set = ap (λ l. l ++ (e.board.view.set ++ those.set)) ((end_sets heard k h).0 ∙ i.telling.known.set) ∙ (sym (append_assoc (view_of c.stops).set e.board.view.set those.set) ∙ sym those.learns.set);
+            seen = ap (λ l. l ++ (e.board.view.seen ++ those.seen)) ((end_sets heard k h).1 ∙ i.telling.known.seen) ∙ (sym (append_assoc (view_of c.stops).seen e.board.view.seen those.seen) ∙ sym those.learns.seen);
           }
+
+          -- Where the closes stand.
+
+          closed_now : (is : ℕ → Type 0) → ((x : Event) (y : Exit) → IsAmong x (M.view e.seat).events → x.what ≡ Close 0 y → is x.stamp) → ClosedAs b (joining i.progress last) is (Inner k)
+          closed_now is all = closed_so (plan_bounds p) b (joining i.progress last) tale last (among_last i.progress.back last) k last_by h ending.came (M.view e.seat) ends.left.leaves.seat_is is all
+
+          untils : (x : ℕ) (z : Stop) → IsAmong (interruption x z) those.set → (z.why ≡ why.Until) × ((j : ℕ) × (x ≡ suc j) × ((plan_bounds p).until j ≡ Some k)) × ClosedAs b (joining i.progress last) (λ m. m < z.at) (Inner k)
+          untils x z m =
+              let r = those.only x z m in
+              let events = ap (λ (u : Seen V). u.seat.events) taken.is in
+              let before = closed_now (λ q. q < n) (λ f y g what. taken.fresh.1 f (subst (λ l. IsAmong f l) (sym events) (among_right f a.seat.events (M.view e.seat).events g))) in
+              (ap (λ (q : Stop). q.why) r.0, (r.1.0, r.1.1, until_is p r.1.0 k r.1.2), subst (λ (q : Stop). ClosedAs b (joining i.progress last) (λ m. m < q.at) (Inner k)) (sym r.0) before)
+
+          fails : (j : StreamNo) → FailedSo i.tale j → FailedSo tale j
+          fails Outer f = (f.0, ending.outer ∙ f.1)
+          fails (Inner j) f = (f.0, ending.kept j (how.Fault f.0) f.1)
+
+          places_now : KeepsPlaces (plan_bounds p) b (joining i.progress last) tale
+          places_now =
+              let q = joining i.progress last in
+              let bounds = plan_bounds p in
+              let ws = e.board.view.set ++ those.set in
+              let old = placed_still bounds a b i.progress q i.tale tale i.tale.obeyed i.tale.set (keeps M.told p a b (M.view e.seat) taken.is).noted (λ y m. among_left (last ∷ []) m) fails i.places in
+              let job = placed_job bounds b q tale last (among_last i.progress.back last) k last_by h ending.came (M.view e.seat) ends.left.leaves.seat_is w.board e.board places learned_so in
+              let obeyed = placed_heed bounds b q tale last (among_last i.progress.back last) k last_by h ending.came (M.view e.seat) ends.left.leaves.seat_is w.board e.board places learned_so in
+              let set = placed_more bounds b q tale [] [] e.board.view.set those.set job (placed_until bounds b q tale k those.set untils) in
+              let all = placed_more bounds b q tale i.tale.obeyed os' i.tale.set ws old (placed_both bounds b q tale os' ws obeyed set) in
+              subst (λ xs. ArePlaced bounds b q tale xs tale.set) (sym (end_obeyed heard k h)) (subst (λ xs. ArePlaced bounds b q tale (i.tale.obeyed ++ os') (xs ++ ws)) (sym (end_sets heard k h).0) all)
 
           pub ended_collecting : IsCollecting M p d0 s0 (record m { receiver = R; desk = d2; collector = record c { tree = B; stops = stops; receiver = R; report = report; left = L } })
           ended_collecting = record {
@@ -248,26 +327,27 @@ module _ {S V F D T : Type 0} {M : Members S V F D T} {p : PlanMeant} {d0 : Depo
             moves = i.moves;
             parts = i.parts;
             parts_are = i.parts_are;
-            progress = joining i.progress ends.left.leaves.last;
+            progress = joining i.progress last;
             tale = tale;
             moved = i.moved;
-            tree = tree_joined M.told p i.tree b ends.left.leaves.last (M.view e.seat) B_is owes main gives;
+            tree = tree_joined M.told p i.tree b last (M.view e.seat) taken.is taken.owes taken.main taken.gives;
             lines = i.lines;
             next = i.next;
-            amid = λ z. amid_kept (i.amid z) b gives scopes room (ap (λ (x : Seen V). x.seat.opened) B_is) (λ r l n. subst (λ xs. IsAmong r xs) (sym (ap (λ (x : Seen V). x.seat.empty) B_is)) (among_left (M.view e.seat).empty n));
+            amid = λ z. amid_kept (i.amid z) b taken.gives taken.scopes taken.room (ap (λ (x : Seen V). x.seat.opened) taken.is) (λ r l m. subst (λ xs. IsAmong r xs) (sym (ap (λ (x : Seen V). x.seat.empty) taken.is)) (among_left (M.view e.seat).empty m));
             begun = i.begun;
             begun_is = i.begun_is;
-            stands = stands_on M.told p i.stands b tale.memory ending.more (keeps M.told p a b (M.view e.seat) B_is) gives;
-            streams = subst (λ x. KeepsStreams M c.hub x d2 b m.jobs L.items R i.parts (joining i.progress ends.left.leaves.last) tale) (sym those.learns.board) streams_now;
-            turns = turns_joined i.progress i.tale ends.left.leaves.last tale ending.pulled ending.room i.turns;
+            stands = stands_on M.told p i.stands b tale.memory ending.more (keeps M.told p a b (M.view e.seat) taken.is) taken.gives;
+            streams = subst (λ x. KeepsStreams M c.hub x d2 b m.jobs L.items R i.parts (joining i.progress last) tale) (sym those.learns.board) streams_now;
+            turns = turns_joined i.progress i.tale last tale ending.pulled ending.room i.turns;
+            places = places_now;
             telling = record {
-              is_tale = is_tale p i.tale k h i.telling.is_tale open_end e.board.view set_for own_set (with_seat_in c.stops e.board) stops those;
+              is_tale = is_tale p heard k h heard_is open_end e.board.view set_for obeyed_so own_set (with_seat_in c.stops e.board) stops n those;
               fates_are = ending.fates ∙ i.telling.fates_are;
               outer_is = ending.outer ∙ i.telling.outer_is;
-              report_is = learns p.take (stream_limit p) (after_end i.tale k h) report (reported p.take (stream_limit p) i.tale i.telling.report_is open_end) (e.board.view.set ++ those.set) (e.board.view.seen ++ those.seen);
+              report_is = learns p.take (stream_limit p) (after_end heard k h) report (reported p.take (stream_limit p) heard (report_heeds p.take (stream_limit p) i.tale c.report i.telling.report_is os') open_end) (e.board.view.set ++ those.set) (e.board.view.seen ++ those.seen);
               known = known;
               seated = seated;
-              seats = let n = i.telling.seats in let o = those.learns.out in omega (arith, n, o);
+              seats = let z = i.telling.seats in let o = those.learns.out in omega (arith, z, o);
               contexts = ap (λ (x : BoardSeen). x.contexts) those.learns.board ∙ i.telling.contexts;
               wrote = wrote_same s0 m.sink i.tale tale ending.cut ending.frames i.telling.wrote;
             };
@@ -276,6 +356,6 @@ module _ {S V F D T : Type 0} {M : Members S V F D T} {p : PlanMeant} {d0 : Depo
               jobs_room = i.room.jobs_room;
               queue = i.room.queue;
               few = let f = i.room.few in omega (arith, f);
-              left = let f = i.room.left in let l = ap (λ xs. length xs) L_is ∙ length-append c.left.items (record { shelf = e.shelf; unopened = e.unopened } ∷ []) in let n = L_room in omega (arith, f, l, n);
+              left = let f = i.room.left in let l = ap (λ xs. length xs) L_is ∙ length-append c.left.items (record { shelf = e.shelf; unopened = e.unopened } ∷ []) in let z = L_room in omega (arith, f, l, z);
             };
           }

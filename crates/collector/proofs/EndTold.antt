@@ -10,21 +10,25 @@ use Rattle.chunk_core.proofs.Members.{among_last, among_left, among_nil}
 use Rattle.interrupt_ctx.specs.Views.{interruption}
 use Rattle.interrupt_ctx.specs.declared.view.Interruption.{Interruption}
 use Rattle.interrupt_ctx.specs.declared.view.View.{View}
-use Rattle.interrupt_ctx.specs.declared.why.Why.{Why}
+use Rattle.interrupt_ctx.specs.declared.why.Stop.{Stop}
 use Rattle.interrupt_ctx.specs.declared.why.Why.TheVariants as why
 use Rattle.join_report.specs.Calls.{after_end}
 use Rattle.join_report.specs.declared.stops.Stops.{Stops}
-use Rattle.join_tale.specs.Bounds.{Bounds}
-use Rattle.join_tale.specs.Keeping.{IsOwnCode, IsTale}
-use Rattle.join_tale.specs.Steps.{TellsEnd, ended, ended_late, learned}
-use Rattle.join_tale.specs.Tales.{Came, IsCaused, IsFoundSet, IsKnown, IsOpen, Tale, end_of, frames_of}
+use Rattle.join_tale.specs.Bounds.{Bounds, is_in_turn}
+use Rattle.join_tale.specs.Keeping.{IsTale, Obeys}
+use Rattle.join_tale.specs.Steps.{TellsEnd, ended, ended_late, heeded, learned}
+use Rattle.join_tale.specs.Tales.{Came, IsCaused, IsKnown, IsOpen, IsSet, Tale, end_of, frames_of}
 use Rattle.join_tale.proofs.Ending as ending
 use Rattle.join_tale.proofs.Parts.{end_before_end, frames_end}
 use Rattle.pipeline_desc.specs.Meant.{PlanMeant}
 use Rattle.pipeline_desc.specs.declared.stream.StreamSpec.{StreamSpec}
+use Rattle.res_ledger.specs.declared.event.StreamNo.TheVariants.{Inner}
+use Rattle.row_seat.specs.declared.view.View.{View as SeatView}
 use Rattle.run_rules.specs.Facts.{is_memory}
 use Rattle.stream_jobs.specs.Learned.{HasSetFor}
+use Rattle.stream_jobs.specs.Places.{HasPlaces}
 use Rattle.dealt_streams.specs.Works.{plan_bounds, until_of}
+use Rattle.dealt_streams.proofs.Placing.{heed}
 use Rattle.collector.specs.Receiving.{EndsWith, StopsThose}
 use Rattle.collector.proofs.Lists.{below_is}
 
@@ -91,6 +95,14 @@ end_sets t k h = go t.ceased
     go true = (refl, refl)
     go false = (refl, refl)
 
+-- and nothing more is obeyed
+pub end_obeyed : (t : Tale) (k : ℕ) (h : How) → (after_end t k h).obeyed ≡ t.obeyed
+end_obeyed t k h = go t.ceased
+  where
+    go : (b : Bool) → (if b then ended_late t k h else ended t k h).obeyed ≡ t.obeyed
+    go true = refl
+    go false = refl
+
 -- what the end adds
 pub end_comes : (bounds : Bounds) (t : Tale) (k : ℕ) (h : How) → IsTale bounds t → EndComes t (after_end t k h) k h
 end_comes bounds t k h i = go t.ceased refl
@@ -120,9 +132,20 @@ until_is p i k (s, e, u) = ap (λ (o : Option StreamSpec). elim o [ Some x ↦ x
 
 -- where one stream is open at a time, a code of stream k that its seat has seen is among those that were set before or by it
 abbrev pub HasSetOwn : PlanMeant → Tale → ℕ → View → Type 0
-HasSetOwn p t k w = p.max_open ≡ 1 → (x : Why) → IsAmong (interruption (suc k) x) w.seen → IsAmong (interruption (suc k) x) (t.set ++ w.set)
+HasSetOwn p t k w = p.max_open ≡ 1 → (x : Stop) → IsAmong (interruption (suc k) x) w.seen → IsAmong (interruption (suc k) x) (t.set ++ w.set)
 
-module _ (p : PlanMeant) (t : Tale) (k : ℕ) (h : How) (i : IsTale (plan_bounds p) t) (o : IsOpen t k) (w : View) (ended_so : HasSetFor k w (Some h)) (own : HasSetOwn p t k w) (before stops : Stops) (those : StopsThose p k (length p.streams) before stops) where
+-- where stream k was halted, the tale has what it obeyed, which its seat has found
+abbrev pub HasHeeded : Tale → ℕ → How → View → Type 0
+HasHeeded t k h w = h ≡ how.Halted → (x : Stop) × IsAmong (Inner k, x) t.obeyed × (IsAmong (interruption 0 x) w.seen ⊎ IsAmong (interruption (1 + k) x) w.seen)
+
+-- so it has behind what its job obeyed
+pub has_heeded : {V : Type 0} (t : Tale) (k : ℕ) (seat : SeatView V) (w : View) (h : How) (q : HasPlaces k seat w h) → HasHeeded (heeded t (heed k seat w h q)) k h w
+has_heeded t k seat w how.Done q = λ e. cc
+has_heeded t k seat w how.Halted q = λ e. let f = q.obeyed refl in (f.0, among_last t.obeyed (Inner k, f.0), f.1)
+has_heeded t k seat w (how.Fault c) q = λ e. cc
+has_heeded t k seat w how.Memory q = λ e. cc
+
+module _ (p : PlanMeant) (t : Tale) (k : ℕ) (h : How) (i : IsTale (plan_bounds p) t) (o : IsOpen t k) (w : View) (ended_so : HasSetFor k w (Some h)) (heeds : HasHeeded t k h w) (own : HasSetOwn p t k w) (before stops : Stops) (n : ℕ) (those : StopsThose p k (length p.streams) n before stops) where
   abbrev pub vs : List Interruption
   vs = w.set ++ those.set
 
@@ -145,45 +168,41 @@ module _ (p : PlanMeant) (t : Tale) (k : ℕ) (h : How) (i : IsTale (plan_bounds
   set_in x m = among_right x u.set vs m
 
   -- a stop of the whole run by the seat of the stream
-  known_so : (there : Why) → IsAmong (interruption 0 there) w.set ⊎ IsAmong (interruption 0 there) w.seen → IsKnown v 0
+  known_so : (there : Stop) → IsAmong (interruption 0 there) w.set ⊎ IsAmong (interruption 0 there) w.seen → IsKnown v 0
   known_so there m = ⊎_elim (λ a. inl (there, set_in (interruption 0 there) (among_left those.set a))) (λ b. inr (there, seen_in (interruption 0 there) (among_left those.seen b))) m
 
-  caused_fault : (c : Code) → h ≡ how.Fault c → (context : ℕ) (x : Why) → interruption context x ≡ interruption 0 why.Fault → IsCaused (plan_bounds p) v context x
-  caused_fault c is context x e =
-      let con : context ≡ 0 = ap (λ (y : Interruption). y.context) e in
-      let wh : why.Fault ≡ x = sym (ap (λ (y : Interruption). y.why) e) in
-      subst (λ y. IsCaused (plan_bounds p) v context y) wh (con, inl (k, c, subst (λ g. Came u k g) is comes.came))
+  caused_fault : (c : Code) → h ≡ how.Fault c → (context : ℕ) (x : Stop) → (context ≡ 0) × (x.why ≡ why.Fault) → IsCaused (plan_bounds p) v context x.why
+  caused_fault c is context x e = subst (λ y. IsCaused (plan_bounds p) v context y) (sym e.1) (e.0, inl (k, c, subst (λ g. Came u k g) is comes.came))
 
-  caused_memory : h ≡ how.Memory → (context : ℕ) (x : Why) → interruption context x ≡ interruption 0 why.Memory → IsCaused (plan_bounds p) v context x
-  caused_memory is context x e =
-      let con : context ≡ 0 = ap (λ (y : Interruption). y.context) e in
-      let wh : why.Memory ≡ x = sym (ap (λ (y : Interruption). y.why) e) in
-      subst (λ y. IsCaused (plan_bounds p) v context y) wh (con, comes.memory is)
+  caused_memory : h ≡ how.Memory → (context : ℕ) (x : Stop) → (context ≡ 0) × (x.why ≡ why.Memory) → IsCaused (plan_bounds p) v context x.why
+  caused_memory is context x e = subst (λ y. IsCaused (plan_bounds p) v context y) (sym e.1) (e.0, comes.memory is)
 
-  caused_seat : (g : How) → h ≡ g → HasSetFor k w (Some g) → (context : ℕ) (x : Why) → IsAmong (interruption context x) w.set → IsCaused (plan_bounds p) v context x
+  caused_seat : (g : How) → h ≡ g → HasSetFor k w (Some g) → (context : ℕ) (x : Stop) → IsAmong (interruption context x) w.set → IsCaused (plan_bounds p) v context x.why
   caused_seat how.Done is s context x m = absurd (among_nil (subst (λ l. IsAmong (interruption context x) l) s m))
   caused_seat how.Halted is s context x m = absurd (among_nil (subst (λ l. IsAmong (interruption context x) l) s.none m))
   caused_seat (how.Fault c) is s context x m = caused_fault c is context x (s.only (interruption context x) m)
   caused_seat how.Memory is s context x m = caused_memory is context x (s.only (interruption context x) m)
 
-  caused_until : (context : ℕ) (x : Why) → IsAmong (interruption context x) those.set → IsCaused (plan_bounds p) v context x
+  caused_until : (context : ℕ) (x : Stop) → IsAmong (interruption context x) those.set → IsCaused (plan_bounds p) v context x.why
   caused_until context x m =
       let r = those.only context x m in
       let ends = r.1.2 in
-      subst (λ y. IsCaused (plan_bounds p) v context y) (sym r.0) (r.1.0, k, r.1.1, until_is p r.1.0 k ends, (h, comes.came))
+      subst (λ (y : Stop). IsCaused (plan_bounds p) v context y.why) (sym r.0) (r.1.0, k, r.1.1, until_is p r.1.0 k ends, (h, comes.came))
 
-  -- a code of its own that it found, which had been set where one stream is open at a time
-  own_code : (x : Why) → IsAmong (interruption (suc k) x) w.seen → IsOwnCode (plan_bounds p) v k
-  own_code x m = (
-    (x, seen_in (interruption (suc k) x) (among_left those.seen m)),
-    λ turn. (x, subst (λ l. IsAmong (interruption (suc k) x) (l ++ vs)) (sym (end_sets t k h).0) (subst (λ l. IsAmong (interruption (suc k) x) l) (append_assoc t.set w.set those.set) (among_left those.set (own (eqb-true p.max_open 1 turn) x m)))),
-  )
+  -- what it obeyed: a code of the whole run, or one of its own, which had been set where one stream is open at a time
+  own_set : (x : Stop) → IsAmong (interruption (suc k) x) w.seen → is_in_turn (plan_bounds p) ≡ true → IsSet v (suc k)
+  own_set x m turn = (x, subst (λ l. IsAmong (interruption (suc k) x) (l ++ vs)) (sym (end_sets t k h).0) (subst (λ l. IsAmong (interruption (suc k) x) l) (append_assoc t.set w.set those.set) (among_left those.set (own (eqb-true p.max_open 1 turn) x m))))
 
-  halted_so : (g : How) → h ≡ g → HasSetFor k w (Some g) → g ≡ how.Halted → IsFoundSet v 0 ⊎ IsOwnCode (plan_bounds p) v k
-  halted_so how.Halted is s e = let f = s.found in ⊎_elim (λ a. inl (f.0, seen_in (interruption 0 f.0) (among_left those.seen a))) (λ b. inr (own_code f.0 (subst (λ n. IsAmong (interruption n f.0) w.seen) (let z : 1 + k ≡ suc k = omega arith in z) b))) f.1
-  halted_so how.Done is s e = cc
-  halted_so (how.Fault c) is s e = cc
-  halted_so how.Memory is s e = cc
+  obeys : h ≡ how.Halted → Obeys (plan_bounds p) v k
+  obeys e =
+      let f = heeds e in (
+        f.0,
+        subst (λ l. IsAmong (Inner k, f.0) l) (sym (end_obeyed t k h)) f.1,
+        ⊎_elim
+            (λ a. inl (seen_in (interruption 0 f.0) (among_left those.seen a)))
+            (λ b. let m = subst (λ n. IsAmong (interruption n f.0) w.seen) (let z : 1 + k ≡ suc k = omega arith in z) b in inr (seen_in (interruption (suc k) f.0) (among_left those.seen m), own_set f.0 m))
+            f.2,
+      )
 
   fault_so : (g : How) (c : Code) → HasSetFor k w (Some g) → g ≡ how.Fault c → IsKnown v 0
   fault_so (how.Fault d) c s e = known_so s.known.0 s.known.1
@@ -200,7 +219,7 @@ module _ (p : PlanMeant) (t : Tale) (k : ℕ) (h : How) (i : IsTale (plan_bounds
   tells : TellsEnd (plan_bounds p) v k h vs
   tells = record {
     caused = λ context x m. ⊎_elim (λ a. caused_seat h refl ended_so context x a) (λ b. caused_until context x b) (among_append (interruption context x) w.set those.set m);
-    halted = λ e. halted_so h refl ended_so e;
+    halted = obeys;
     fault = λ c e. fault_so h c ended_so e;
     memory = λ e. memory_so h ended_so e;
     until = λ j e. let s = until_spec p j k e in let r = those.each j s.0 s.1 in ⊎_elim (λ a. inl (r.0, set_in (interruption (suc j) r.0) (among_right (interruption (suc j) r.0) w.set those.set a))) (λ b. inr (r.0, seen_in (interruption (suc j) r.0) (among_right (interruption (suc j) r.0) w.seen those.seen b))) r.1;

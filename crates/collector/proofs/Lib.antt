@@ -13,6 +13,8 @@ pub mod ListGiven
 pub mod Pulled
 pub mod Streams
 pub mod Telling
+pub mod Placed
+pub mod Marked
 pub mod Turns
 pub mod Steps
 pub mod Turned

@@ -9,6 +9,7 @@ use Rattle.channel_bounded.specs.declared.message.Msg.{Msg}
 use Rattle.device_port.specs.Depot.{DepotTold}
 use Rattle.device_port.specs.Sink.{SinkTold}
 use Rattle.interrupt_ctx.specs.Ends.{BoardSeen}
+use Rattle.interrupt_ctx.specs.declared.why.Stop.{Stop}
 use Rattle.interrupt_ctx.specs.declared.why.Why.{Why}
 use Rattle.join_report.specs.Calls.{Writes, WritesLoad}
 use Rattle.join_report.specs.Calls.Writes.{late, some, last, sink, memory}
@@ -43,6 +44,7 @@ use Rattle.dealt_streams.specs.Parts.{Part}
 use Rattle.collector.specs.Receiving.{HasGot}
 use Rattle.collector.proofs.Loads.{LoadGoes, SameEnds, goes_on, goes_on_stopped, wrote_none}
 use Rattle.res_ledger.proofs.Mapped.{among_map}
+use Rattle.collector.proofs.Placed.{fails_on, placed_calm, placed_set}
 use Rattle.collector.proofs.Steps.{retold}
 use Rattle.collector.proofs.Turning.{job_at}
 use Rattle.collector.proofs.Opening.{is_open}
@@ -144,7 +146,9 @@ module _ {S V F D T : Type 0} {M : Members S V F D T} {p : PlanMeant} {d0 : Depo
         contexts = ap (λ (b : BoardSeen). b.contexts) board ∙ i.telling.contexts;
         wrote = g.wrote;
       })
-      (turns_same i.progress i.tale v g.same.pulled g.same.room i.turns) refl refl)
+      (turns_same i.progress i.tale v g.same.pulled g.same.room i.turns)
+      (placed_set (plan_bounds p) (seen M.view c.tree) (seen M.view c.tree) i.progress i.progress i.tale v (λ e n. n) (λ y n. n) (fails_on i.tale v (λ f e. g.same.outer ∙ e) g.same.came) i.places g.set.0 g.obeyed g.set.1
+      (placed_calm (plan_bounds p) (seen M.view c.tree) i.progress v g.set.0 g.set.2)) refl refl)
 
   pub full_elements : 0 < length (elements l)
   full_elements = (each_right IsFullMessage o.receiver.got (m ∷ h.rest) h.sees.1).0
@@ -185,9 +189,9 @@ module _ {S V F D T : Type 0} {M : Members S V F D T} {p : PlanMeant} {d0 : Depo
         let same = same_set goes.1 in
         with_load goes.0 report c.stops now (goes_on (plan_bounds p) i.tale k l s0 o.sink now i.telling.is_tale open_load full i.telling.wrote goes.0 w) goes.2 (record { set = same.0 ∙ i.telling.known.set; seen = same.1 ∙ i.telling.known.seen }) i.telling.seated refl refl
 
-    pub load_stopped : (w : Why) (stops : Stops) → answer ≡ Some w → Interrupts c.stops stops 0 w → IsSeated stops → IsCollecting M p d0 s0 (record o { receiver = r; sink = now; collector = record c { report = report; stops = stops } })
-    load_stopped w stops e (vs, cs, marks, learned_so) seated =
+    pub load_stopped : (w : Why) (x : Stop) (stops : Stops) → answer ≡ Some w → x.why ≡ w → Interrupts c.stops stops 0 x → IsSeated stops → IsCollecting M p d0 s0 (record o { receiver = r; sink = now; collector = record c { report = report; stops = stops } })
+    load_stopped w x stops e told (vs, cs, marks, learned_so) seated =
         let wr = subst (λ a. Writes p.take i.tale k l o.sink now a goes.0) e goes.1 in
         let same = same_set goes.1 in
         let known : TellsKnown goes.0 c.stops = record { set = same.0 ∙ i.telling.known.set; seen = same.1 ∙ i.telling.known.seen } in
-        with_load (learned goes.0 vs cs) report stops now (goes_on_stopped (plan_bounds p) i.tale k l s0 o.sink now i.telling.is_tale open_load full i.telling.wrote goes.0 w vs cs wr marks) (learns p.take (stream_limit p) goes.0 report goes.2 vs cs) (learns_known goes.0 c.stops stops vs cs known learned_so) seated learned_so.board learned_so.out
+        with_load (learned goes.0 vs cs) report stops now (goes_on_stopped (plan_bounds p) i.tale k l s0 o.sink now i.telling.is_tale open_load full i.telling.wrote goes.0 w x vs cs wr told marks) (learns p.take (stream_limit p) goes.0 report goes.2 vs cs) (learns_known goes.0 c.stops stops vs cs known learned_so) seated learned_so.board learned_so.out

@@ -9,7 +9,9 @@ use Rattle.chunk_core.specs.declared.load.Load.{Load}
 use Rattle.chunk_core.proofs.Members.{among_left}
 use Rattle.device_port.specs.Sink.{BreaksOff, SinkTold, with_bytes}
 use Rattle.interrupt_ctx.specs.declared.view.Interruption.{Interruption}
+use Rattle.interrupt_ctx.specs.declared.why.Stop.{Stop}
 use Rattle.interrupt_ctx.specs.declared.why.Why.{Why}
+use Rattle.interrupt_ctx.specs.declared.why.Why.TheVariants as why
 use Rattle.join_report.specs.Calls.{Writes}
 use Rattle.join_report.specs.Calls.Writes.{late, some, last, sink, memory}
 use Rattle.join_tale.specs.Bounds.{Bounds}
@@ -19,6 +21,7 @@ use Rattle.join_tale.specs.Tales.{Came, IsOpen, Tale, end_of, frames_of, load_of
 use Rattle.join_tale.proofs.Parts.{end_before_load, frames_load}
 use Rattle.join_tale.proofs.Receiving as receiving
 use Rattle.collector.specs.Collecting.{WritesTale}
+use Rattle.collector.proofs.Placed.{AreCalm, calm_marks, calm_none}
 
 -- the same ends came, and the streams are as they were
 pub record SameEnds (t v : Tale) : Type 0 where
@@ -111,6 +114,8 @@ module _ (s0 : SinkTold) where
 pub record LoadGoes (bounds : Bounds) (t v : Tale) (k : ℕ) (x : List ℕ) (s0 new : SinkTold) : Type 0 where
   pub is_tale : IsTale bounds v
   pub same : SameEnds t v
+  pub obeyed : v.obeyed ≡ t.obeyed
+  pub set : (vs : List Interruption) × (v.set ≡ t.set ++ vs) × AreCalm vs
   pub got : v.front ++ v.late ≡ (t.front ++ t.late) ++ load_of k x ∷ []
   pub wrote : WritesTale s0 new v
 
@@ -121,7 +126,7 @@ got_front t v k x none f l = ap (λ ms. v.front ++ ms) (l ∙ none) ∙ (append-
 got_late : (t v : Tale) (k : ℕ) (x : List ℕ) → v.front ≡ t.front → v.late ≡ t.late ++ load_of k x ∷ [] → v.front ++ v.late ≡ (t.front ++ t.late) ++ load_of k x ∷ []
 got_late t v k x f l = ap (λ ms. ms ++ v.late) f ∙ (ap (λ ms. t.front ++ ms) l ∙ sym (append_assoc t.front t.late (load_of k x ∷ [])))
 
-module _ (bounds : Bounds) (t : Tale) (k : ℕ) (load : Load) (s0 old new : SinkTold) (i : IsTale bounds t) (o : IsOpen t k) (full : 0 < length (rendering_of (elements load))) (w : WritesTale s0 old t) where
+module _ (bounds : Bounds) (t : Tale) (k : ℕ) (load : Load) (s0 old new : SinkTold) (i : IsTale bounds t) (o : IsOpen t k) (full : 0 < length (rendering_of (elements load))) (so : WritesTale s0 old t) where
   abbrev x : List ℕ
   x = rendering_of (elements load)
 
@@ -130,46 +135,59 @@ module _ (bounds : Bounds) (t : Tale) (k : ℕ) (load : Load) (s0 old new : Sink
   goes_on u (late ceased same) = record {
     is_tale = receiving.drops bounds t k x i o full ceased;
     same = record { fates = refl; outer = refl; pulled = refl; room = refl; memory = λ m. m; came = came_late t u k x refl refl; back = back_late t u k x refl refl };
+    obeyed = refl;
+    set = ([], sym (append-nil t.set), calm_none);
     got = got_late t u k x refl refl;
-    wrote = subst (λ s. WritesTale s0 s u) (sym same) (wrote_same s0 old t u refl refl w);
+    wrote = subst (λ s. WritesTale s0 s u) (sym same) (wrote_same s0 old t u refl refl so);
   }
   goes_on u (some ceased most is) =
       let quiet = i.frames.quiet ceased in
       record {
         is_tale = receiving.writes bounds t k x i o full ceased most;
         same = record { fates = refl; outer = refl; pulled = refl; room = refl; memory = λ m. m; came = came_front t u k x refl refl; back = back_front t u k x refl refl };
+        obeyed = refl;
+        set = ([], sym (append-nil t.set), calm_none);
         got = got_front t u k x quiet.0 refl refl;
-        wrote = wrote_more s0 old new t u k x quiet.1 quiet.1 refl is w;
+        wrote = wrote_more s0 old new t u k x quiet.1 quiet.1 refl is so;
       }
 
   -- the whole run was interrupted for the cause that was told
-  pub goes_on_stopped : (u : Tale) (cause : Why) (vs cs : List Interruption) → Writes bounds.most t k load old new (Some cause) u → Marks 0 cause vs cs → LoadGoes bounds t (learned u vs cs) k x s0 new
-  goes_on_stopped u cause vs cs (last ceased most is) marks =
+  pub goes_on_stopped : (u : Tale) (cause : Why) (w : Stop) (vs cs : List Interruption) → Writes bounds.most t k load old new (Some cause) u → w.why ≡ cause → Marks 0 w vs cs → LoadGoes bounds t (learned u vs cs) k x s0 new
+  goes_on_stopped u cause w vs cs (last ceased most is) told marks =
+      let plain = calm_marks vs cs marks (λ e. let z : why.Take ≡ why.Fault = sym told ∙ e in cc) (λ e. let z : why.Take ≡ why.Until = sym told ∙ e in cc) in
       let quiet = i.frames.quiet ceased in
       let v : Tale = learned u vs cs in
       record {
-        is_tale = receiving.meets bounds t k x i o full vs cs marks ceased most;
+        is_tale = receiving.meets bounds t k x i o full vs cs told marks ceased most;
         same = record { fates = refl; outer = refl; pulled = refl; room = refl; memory = λ m. m; came = came_front t v k x refl refl; back = back_front t v k x refl refl };
+        obeyed = refl;
+        set = (vs, refl, plain);
         got = got_front t v k x quiet.0 refl refl;
-        wrote = wrote_more s0 old new t v k x quiet.1 quiet.1 refl is w;
+        wrote = wrote_more s0 old new t v k x quiet.1 quiet.1 refl is so;
       }
-  goes_on_stopped u cause vs cs (sink ceased breaks) marks =
+  goes_on_stopped u cause w vs cs (sink ceased breaks) told marks =
+      let plain = calm_marks vs cs marks (λ e. let z : why.Sink ≡ why.Fault = sym told ∙ e in cc) (λ e. let z : why.Sink ≡ why.Until = sym told ∙ e in cc) in
       let quiet = i.frames.quiet ceased in
       let v : Tale = learned u vs cs in
       let behind : v.late ≡ t.late ++ load_of k x ∷ [] = ap (λ ms. ms ++ load_of k x ∷ []) (sym quiet.0) in
       record {
-        is_tale = receiving.fails bounds t k x i o full vs cs marks ceased;
+        is_tale = receiving.fails bounds t k x i o full vs cs told marks ceased;
         same = record { fates = refl; outer = refl; pulled = refl; room = refl; memory = λ m. m; came = came_late t v k x refl behind; back = back_late t v k x refl behind };
+        obeyed = refl;
+        set = (vs, refl, plain);
         got = got_late t v k x refl behind;
-        wrote = wrote_cut s0 old new t v k x quiet.1 refl refl breaks w;
+        wrote = wrote_cut s0 old new t v k x quiet.1 refl refl breaks so;
       }
-  goes_on_stopped u cause vs cs (memory ceased same kind) marks =
+  goes_on_stopped u cause w vs cs (memory ceased same kind) told marks =
+      let plain = calm_marks vs cs marks (λ e. let z : why.Memory ≡ why.Fault = sym told ∙ e in cc) (λ e. let z : why.Memory ≡ why.Until = sym told ∙ e in cc) in
       let quiet = i.frames.quiet ceased in
       let v : Tale = learned u vs cs in
       let behind : v.late ≡ t.late ++ load_of k x ∷ [] = ap (λ ms. ms ++ load_of k x ∷ []) (sym quiet.0) in
       record {
-        is_tale = receiving.lacks bounds t k x i o full vs cs marks ceased;
+        is_tale = receiving.lacks bounds t k x i o full vs cs told marks ceased;
         same = record { fates = refl; outer = refl; pulled = refl; room = refl; memory = λ m. refl; came = came_late t v k x refl behind; back = back_late t v k x refl behind };
+        obeyed = refl;
+        set = (vs, refl, plain);
         got = got_late t v k x refl behind;
-        wrote = subst (λ s. WritesTale s0 s v) (sym same) (wrote_same s0 old t v refl refl w);
+        wrote = subst (λ s. WritesTale s0 s v) (sym same) (wrote_same s0 old t v refl refl so);
       }

@@ -5,7 +5,7 @@ use Rattle.chunk_core.specs.Lists.{IsAmong}
 use Rattle.chunk_core.proofs.Filters.{among_right}
 use Rattle.interrupt_ctx.specs.Views.{HasSetAll, interruption}
 use Rattle.interrupt_ctx.specs.declared.view.Interruption.{Interruption}
-use Rattle.interrupt_ctx.specs.declared.why.Why.{Why}
+use Rattle.interrupt_ctx.specs.declared.why.Stop.{Stop}
 use Rattle.join_report.specs.Stopping.{IsUnknown, Learns, Looks, Reaches, view_of}
 use Rattle.join_report.specs.declared.stops.Stops.{Stops}
 use Rattle.collector.specs.declared.collector.Collector.{Collector}
@@ -32,7 +32,7 @@ module _ {S V F D T : Type 0} (c : Collector S V F D T) (old : Stops) where
   pub may_skip : (cs : List Interruption) → Learns old c.stops [] cs → Reaches (1 + c.next) cs → (deque_capacity c.jobs ≡ 1 → HasSetAll (view_of c.stops)) → MaySkip c
   may_skip cs l r all = ⊎_elim (λ f. inr (inl (f.0, seen (1 + c.next) f.0 f.1, λ one. all one (1 + c.next) f.0 (inr (seen (1 + c.next) f.0 f.1))))) (λ f. inl (f.0, seen 0 f.0 f.1)) r
     where
-      seen : (context : ℕ) (w : Why) → IsAmong (interruption context w) cs → IsAmong (interruption context w) (view_of c.stops).seen
+      seen : (context : ℕ) (w : Stop) → IsAmong (interruption context w) cs → IsAmong (interruption context w) (view_of c.stops).seen
       seen context w m = subst (λ xs. IsAmong (interruption context w) xs) (sym l.seen) (among_right (interruption context w) (view_of old).seen cs m)
 
   -- it may begin, where none was

@@ -17,7 +17,7 @@ use Rattle.join_report.specs.declared.stops.Stops.{Stops}
 use Rattle.join_tale.specs.Steps.{TellsOuter, learned, outer_ended}
 use Rattle.join_tree.specs.Given.{given}
 use Rattle.join_tree.specs.Mains.{IsMain}
-use Rattle.join_tree.specs.Progress.{closing_root, standing}
+use Rattle.join_tree.specs.Progress.{Progress, closing_root, standing}
 use Rattle.list_rows.specs.Reading.{KeepsRowsBut}
 use Rattle.outer_source.specs.Standing.{IsAmidAll, IsSourceAt}
 use Rattle.outer_source.specs.declared.next.Next.{Next}
@@ -27,8 +27,11 @@ use Rattle.outer_stream.specs.Steps.{KeepsOthers}
 use Rattle.pipeline_desc.specs.Meant.{PlanMeant, stream_limit}
 use Rattle.pipeline_desc.specs.Places.{outer_rows}
 use Rattle.pull_stepper.specs.Held.{FinishesDevice}
+use Rattle.res_ledger.specs.Ledger.{Notes}
+use Rattle.res_ledger.specs.declared.event.Event.{Event}
 use Rattle.res_ledger.specs.declared.event.StreamNo.TheVariants.{Outer}
 use Rattle.res_ledger.specs.declared.event.What.{What}
+use Rattle.res_ledger.specs.declared.event.What.TheVariants.{Close}
 use Rattle.row_seat.specs.Views.{OthersFit}
 use Rattle.run_rules.specs.Facts.{is_memory}
 use Rattle.scope_tree.specs.Calls.{Seen}
@@ -36,6 +39,7 @@ use Rattle.scope_tree.specs.Trees.{Fits, seen}
 use Rattle.scope_tree.specs.declared.tree.Tree.{Tree}
 use Rattle.dealt_streams.specs.Moves.{AreMoved, Move, dealt_of, lines_of, opened_of}
 use Rattle.dealt_streams.specs.Parts.{fate_of}
+use Rattle.dealt_streams.specs.Places.{ArePlaced}
 use Rattle.dealt_streams.specs.Standing.{StandsOuter, plan_parts}
 use Rattle.dealt_streams.specs.Works.{plan_bounds}
 use Rattle.collector.specs.declared.collector.Collector.{Collector}
@@ -45,6 +49,7 @@ use Rattle.collector.specs.Members.{Members}
 use Rattle.collector.specs.Starting.{ClosesOuter}
 use Rattle.collector.specs.Trees.{HaveLines, KeepsTree}
 use Rattle.outer_stream.proofs.Keeping.{others_kept, others_then}
+use Rattle.collector.proofs.Placed.{fails_then, placed_same, placed_set}
 use Rattle.collector.proofs.Standing.{stands_on}
 use Rattle.collector.proofs.Steps.{may_lease}
 use Rattle.collector.proofs.Streams.{moved, streams_handed, streams_retold}
@@ -124,14 +129,17 @@ module _ {S V F D T : Type 0} {M : Members S V F D T} {p : PlanMeant} {d0 : Depo
           k.tale.outer k.tale.set k.tale.seen k.tale.ceased k.tale.memory h.waits k.progress.next (suc k.progress.leased) h.tables k.progress.root)
           k.progress.out ((k.progress.leased, standing k.progress) ∷ k.progress.ahead) k.progress.last k.tale.pulled k.tale.room;
       turns = turns_leased k.progress k.tale k.turns ready (root_open M.told p k.tree none) h.waits h.tables;
+      places = placed_same (plan_bounds p) a (seen M.view t) k.progress (record k.progress { waits = h.waits; leased = suc k.progress.leased; tables = h.tables; ahead = (k.progress.leased, standing k.progress) ∷ k.progress.ahead }) k.tale k.tale
+          (subst (λ (z : Seen V). (i : Event) → IsAmong i a.seat.events → IsAmong i z.seat.events) (sym same) rows.noted) (λ i n. n) (λ i n. n) k.places refl refl;
       telling = k.telling;
       room = record { waiting = capacity ∙ k.room.waiting; jobs_room = k.room.jobs_room; queue = k.room.queue; few = k.room.few; left = k.room.left };
     }
 
     -- it ended, and its root was closed
     pub over_step : {h : How} (o : HasOver y new b h) (t : Tree S V D) (stops : Stops) (report : Report) (e : D) (vs cs : List Interruption) → ClosesOuter (FinishesDevice M.told) h b (seen M.view t) → Fits M.view M.fits t e → OthersFit M.view M.fits Outer m.desk e
-        → EndsOuter h c.report report → Learns c.stops stops vs cs → IsSeated stops → TellsOuter (plan_bounds p) (learned (outer_ended k.tale h) vs cs) h vs → IsCollecting M p d0 s0 (record m { depot = new; desk = e; collector = record c { tree = t; stops = stops; report = report; outer = Some h; outer_stream = y } })
-    over_step {h = h} o t stops report e vs cs close fit others ends l seated tells = record {
+        → EndsOuter h c.report report → Learns c.stops stops vs cs → IsSeated stops → TellsOuter (plan_bounds p) (learned (outer_ended k.tale h) vs cs) h vs
+        → ((q : Progress V) → Notes (seen M.view t).seat.events Outer (Close 0 (exit_of h)) → ArePlaced (plan_bounds p) (seen M.view t) q (learned (outer_ended k.tale h) vs cs) [] vs) → IsCollecting M p d0 s0 (record m { depot = new; desk = e; collector = record c { tree = t; stops = stops; report = report; outer = Some h; outer_stream = y } })
+    over_step {h = h} o t stops report e vs cs close fit others ends l seated tells new_places = record {
       sound = k.sound;
       few_faults = k.few_faults;
       fits_desk = fit;
@@ -155,6 +163,10 @@ module _ {S V F D T : Type 0} {M : Members S V F D T} {p : PlanMeant} {d0 : Depo
           (Some h) (k.tale.set ++ vs) (k.tale.seen ++ cs) (k.tale.ceased || is_memory h) (k.tale.memory || is_memory h) k.progress.waits k.progress.next k.progress.leased o.tables (Some (exit_of h)))
           k.progress.out k.progress.ahead (standing k.progress) k.tale.pulled k.tale.room;
       turns = turns_closed k.progress k.tale k.turns ready (learned (outer_ended k.tale h) vs cs) refl refl o.tables (exit_of h);
+      places =
+          let q = closing_root (record k.progress { tables = o.tables }) (exit_of h) in
+          let u = learned (outer_ended k.tale h) vs cs in
+          placed_set (plan_bounds p) a (seen M.view t) k.progress q k.tale u (λ i n. close.rows.noted i (rows.noted i n)) (λ i n. n) (fails_then k.tale u (k.telling.outer_is ∙ none) (λ j g n. n)) k.places vs refl refl (new_places q ((o.tree (seen M.view t) close).main.told.root (exit_of h) refl));
       telling = tale_closes p c.outer c.report c.stops (length m.jobs) s0 m.sink (map fate_of k.parts) k.tale k.telling h stops report vs cs none l seated ends tells;
       room = record { waiting = k.room.waiting; jobs_room = k.room.jobs_room; queue = k.room.queue; few = k.room.few; left = k.room.left };
     }

@@ -12,14 +12,14 @@ use Rattle.device_port.specs.Depot.{DepotTold}
 use Rattle.device_port.specs.Sink.{SinkTold}
 use Rattle.interrupt_ctx.specs.Views.{interruption}
 use Rattle.interrupt_ctx.specs.declared.view.Interruption.{Interruption}
-use Rattle.interrupt_ctx.specs.declared.why.Why.{Why}
+use Rattle.interrupt_ctx.specs.declared.why.Stop.{Stop}
 use Rattle.interrupt_ctx.specs.declared.why.Why.TheVariants as why
 use Rattle.join_report.specs.Calls.{EndsOuter, MissesStream}
 use Rattle.join_report.specs.Stopping.{IsSeated, Learns, view_of, with_seat_out}
 use Rattle.join_report.specs.declared.report.Report.{Report}
 use Rattle.join_report.specs.declared.stops.Stops.{Stops}
 use Rattle.join_tale.specs.Keeping.{IsOuterStopped, IsOwnCode}
-use Rattle.join_tale.specs.Steps.{Marks, TellsOuter, fated, learned, outer_ended, unmade}
+use Rattle.join_tale.specs.Steps.{Marks, TellsOuter, fated, heeded, learned, outer_ended, unmade}
 use Rattle.join_tale.specs.Tales as tales
 use Rattle.join_tale.specs.Tales.{IsFoundSet, IsSet, Tale}
 use Rattle.join_tree.specs.Given.{GivesMore, given}
@@ -48,21 +48,24 @@ use Rattle.dealt_streams.specs.Moves.Move.{Dealt}
 use Rattle.dealt_streams.specs.Parts.{Deals, MakesUnmade, Part, fate_of, line_at, spec_of}
 use Rattle.dealt_streams.specs.Parts.Part.{Skipped, Unmade}
 use Rattle.dealt_streams.specs.Standing.{StandsOuter, plan_parts}
+use Rattle.dealt_streams.specs.Places.{KeepsPlaces}
 use Rattle.dealt_streams.specs.Turns.{KeepsTurns}
 use Rattle.dealt_streams.specs.Works.{plan_bounds}
 use Rattle.collector.specs.declared.collector.Collector.{Collector}
 use Rattle.collector.specs.declared.waiting.Waiting.{Waiting}
 use Rattle.collector.specs.Collecting.{IsCollecting, KeepsTale, Moment}
 use Rattle.collector.specs.Members.{Members}
-use Rattle.collector.specs.Starting.{ClosesOuter, MaySkip, PassesOver}
+use Rattle.collector.specs.Starting.{ClosesOuter, ClosesOuterBehind, MaySkip, PassesOver}
 use Rattle.collector.specs.Streams.{KeepsStreams, guest_of}
 use Rattle.collector.specs.Trees.{HaveLines, KeepsTree, waiting_of}
 use Rattle.collector.proofs.Lists.{map_length, map_snoc, snoc_length}
 use Rattle.collector.proofs.Moving.{dealt_snoc, lines_dealt, moved_snoc, opened_dealt}
 use Rattle.collector.proofs.Naming.{line_there}
 use Rattle.collector.proofs.Standing.{stands_dealt, stands_halted, stands_on}
-use Rattle.collector.proofs.Streams.{jobs_number, moved, streams_missed, streams_retold, streams_skipped, streams_stay}
-use Rattle.collector.proofs.Telling.{found_so, tale_closes, tale_learns, tale_misses, tale_skips}
+use Rattle.dealt_streams.proofs.Placing.{placed_plain}
+use Rattle.collector.proofs.Placed.{fails_on, fails_then, outer_behind, placed_obeys, placed_same, placed_set}
+use Rattle.collector.proofs.Streams.{jobs_number, moved, streams_heeded, streams_missed, streams_retold, streams_skipped, streams_stay}
+use Rattle.collector.proofs.Telling.{found_so, tale_closes, tale_heeds, tale_learns, tale_misses, tale_skips}
 use Rattle.collector.proofs.Turns.{turns_halted}
 use Rattle.collector.proofs.Tree.{amid_kept, closed, next_below, next_is, next_leased, passed, tree_widened}
 
@@ -112,6 +115,7 @@ module _ {S V F D T : Type 0} {M : Members S V F D T} {p : PlanMeant} {d0 : Depo
     stands = k.stands;
     streams = k.streams;
     turns = k.turns;
+    places = k.places;
     telling = k.telling;
     room = k.room;
   }
@@ -138,15 +142,16 @@ module _ {S V F D T : Type 0} {M : Members S V F D T} {p : PlanMeant} {d0 : Depo
     stands = k.stands;
     streams = k.streams;
     turns = k.turns;
+    places = k.places;
     telling = k.telling;
     room = record { waiting = capacity ∙ k.room.waiting; jobs_room = k.room.jobs_room; queue = k.room.queue; few = k.room.few; left = k.room.left };
   }
 
   -- the main tree and the outer stream are as they were, and so are the streams that were dealt with
   pub retold : (js : List (Job S V F V D T)) (r : ReceiverSeen) (sink : SinkTold) (e : D) (jobs : VecDeque (Job S V F V D T) Global) (report : Report) (stops : Stops) (v : Tale) → (k.tale.memory ≡ true → v.memory ≡ true) → Fits M.view M.fits c.tree e
-      → KeepsStreams M c.hub stops.board e b js c.left.items r k.parts k.progress v → KeepsTale p c.outer report stops (length js) s0 sink (map fate_of k.parts) v → KeepsTurns k.progress v → length js ≡ length m.jobs → deque_capacity jobs ≡ deque_capacity c.jobs
+      → KeepsStreams M c.hub stops.board e b js c.left.items r k.parts k.progress v → KeepsTale p c.outer report stops (length js) s0 sink (map fate_of k.parts) v → KeepsTurns k.progress v → KeepsPlaces (plan_bounds p) b k.progress v → length js ≡ length m.jobs → deque_capacity jobs ≡ deque_capacity c.jobs
       → IsCollecting M p d0 s0 (record m { jobs = js; receiver = r; sink = sink; desk = e; collector = record c { jobs = jobs; report = report; stops = stops } })
-  retold js r sink e jobs report stops v more fit streams telling turns count capacity = record {
+  retold js r sink e jobs report stops v more fit streams telling turns places count capacity = record {
     sound = k.sound;
     few_faults = k.few_faults;
     fits_desk = fit;
@@ -166,6 +171,7 @@ module _ {S V F D T : Type 0} {M : Members S V F D T} {p : PlanMeant} {d0 : Depo
     stands = stands_on M.told p k.stands b v.memory more (rows_same b) (gives_none b);
     streams = streams;
     turns = turns;
+    places = places;
     telling = telling;
     room = record {
       waiting = k.room.waiting;
@@ -181,7 +187,8 @@ module _ {S V F D T : Type 0} {M : Members S V F D T} {p : PlanMeant} {d0 : Depo
   learns_step again cs l seated = retold m.jobs m.receiver m.sink m.desk c.jobs c.report again (learned k.tale [] cs) (λ z. z) k.fits_desk
       (streams_stay M c.hub c.stops.board m.desk b m.jobs c.left.items m.receiver k.parts k.progress k.tale k.streams again.board m.desk b l.board (λ x ne f. f) (others_same 0 b) (rows_same b)
       k.tale.outer (k.tale.set ++ []) (k.tale.seen ++ cs) k.tale.ceased k.tale.memory k.progress.waits k.progress.next k.progress.leased k.progress.tables k.progress.root)
-      (tale_learns p c.outer c.report c.stops (length m.jobs) s0 m.sink (map fate_of k.parts) k.tale k.telling again cs l seated) (record { pulled = k.turns.pulled; ahead = k.turns.ahead; room = k.turns.room }) refl refl
+      (tale_learns p c.outer c.report c.stops (length m.jobs) s0 m.sink (map fate_of k.parts) k.tale k.telling again cs l seated) (record { pulled = k.turns.pulled; ahead = k.turns.ahead; room = k.turns.room })
+      (placed_same (plan_bounds p) b b k.progress k.progress k.tale (learned k.tale [] cs) (λ x i. i) (λ y i. i) (fails_on k.tale (learned k.tale [] cs) (λ f x. x) (λ j h i. i)) k.places refl (append-nil k.tale.set)) refl refl
 
   -- nothing was done to the main tree, in the outer stream's name
   pub still_step : (tree : Tree S V D) (e : D) → seen M.view tree ≡ b → Fits M.view M.fits tree e → OthersFit M.view M.fits Outer m.desk e → IsCollecting M p d0 s0 (record m { desk = e; collector = record c { tree = tree } })
@@ -207,6 +214,7 @@ module _ {S V F D T : Type 0} {M : Members S V F D T} {p : PlanMeant} {d0 : Depo
         (subst (λ (x : Seen V). KeepsRows b.seat x.seat) (sym same) (rows_same b))
         k.tale.outer k.tale.set k.tale.seen k.tale.ceased k.tale.memory k.progress.waits k.progress.next k.progress.leased k.progress.tables k.progress.root;
     turns = k.turns;
+    places = subst (λ (x : Seen V). KeepsPlaces (plan_bounds p) x k.progress k.tale) (sym same) k.places;
     telling = k.telling;
     room = record { waiting = k.room.waiting; jobs_room = k.room.jobs_room; queue = k.room.queue; few = k.room.few; left = k.room.left };
   }
@@ -227,35 +235,41 @@ module _ {S V F D T : Type 0} {M : Members S V F D T} {p : PlanMeant} {d0 : Depo
       let n = map_length waiting_of m.waiting in
       omega (arith, few, o, w, n)
 
-  -- the outer stream found a code
-  pub halt_step : (tree : Tree S V D) (report : Report) (e : D) → c.outer ≡ None → ClosesOuter (FinishesDevice M.told) how.Halted b (seen M.view tree) → Fits M.view M.fits tree e → OthersFit M.view M.fits Outer m.desk e → EndsOuter how.Halted c.report report
-      → TellsOuter (plan_bounds p) (learned (outer_ended k.tale how.Halted) [] []) how.Halted [] → Learns c.stops c.stops [] [] → IsCollecting M p d0 s0 (record m { desk = e; collector = record c { tree = tree; report = report; outer = Some how.Halted } })
-  halt_step tree report e none close fit others ends tells l = record {
-    sound = k.sound;
-    few_faults = k.few_faults;
-    fits_desk = fit;
-    its_parts = k.its_parts;
-    moves = k.moves;
-    parts = k.parts;
-    parts_are = k.parts_are;
-    progress = closing_root k.progress (exit_of how.Halted);
-    tale = learned (outer_ended k.tale how.Halted) [] [];
-    moved = k.moved;
-    tree = closed M.told p k.tree how.Halted (seen M.view tree) none close;
-    lines = k.lines;
-    next = k.next;
-    amid = λ e. cc;
-    begun = k.begun;
-    begun_is = λ z. cc;
-    stands = stands_on M.told p (stands_halted M.told p (subst (λ o. StandsOuter p M.told k.moves k.begun c.outer_stream.outer.leased c.outer_stream.outer.tables o k.tale.memory b) none k.stands)) (seen M.view tree) (k.tale.memory || false) (λ z. or_more k.tale.memory z) close.rows close.gives;
-    streams = streams_retold M c.hub c.stops.board e (seen M.view tree) m.jobs c.left.items m.receiver k.parts (moved k.progress k.progress.waits k.progress.next k.progress.leased k.progress.tables (Some (exit_of how.Halted))) (learned (outer_ended k.tale how.Halted) [] [])
-        (streams_stay M c.hub c.stops.board m.desk b m.jobs c.left.items m.receiver k.parts k.progress k.tale k.streams c.stops.board e (seen M.view tree) refl others (others_kept 0 b (seen M.view tree) close.guests) close.rows
-        (Some how.Halted) (k.tale.set ++ []) (k.tale.seen ++ []) (k.tale.ceased || false) (k.tale.memory || false) k.progress.waits k.progress.next k.progress.leased k.progress.tables (Some (exit_of how.Halted)))
-        k.progress.out k.progress.ahead (standing k.progress) k.tale.pulled k.tale.room;
-    turns = turns_halted k.progress k.tale (learned (outer_ended k.tale how.Halted) [] []) refl refl k.turns;
-    telling = tale_closes p c.outer c.report c.stops (length m.jobs) s0 m.sink (map fate_of k.parts) k.tale k.telling how.Halted c.stops report [] [] none l k.telling.seated ends tells;
-    room = record { waiting = k.room.waiting; jobs_room = k.room.jobs_room; queue = k.room.queue; few = k.room.few; left = k.room.left };
-  }
+  -- the outer stream found a code, and closed its root behind what this names
+  pub halt_step : (tree : Tree S V D) (report : Report) (e : D) (x : Stop) → c.outer ≡ None → ClosesOuter (FinishesDevice M.told) how.Halted b (seen M.view tree) → ClosesOuterBehind x.at (seen M.view tree) → Fits M.view M.fits tree e → OthersFit M.view M.fits Outer m.desk e → EndsOuter how.Halted c.report report
+      → TellsOuter (plan_bounds p) (learned (outer_ended (heeded k.tale ((Outer, x) ∷ [])) how.Halted) [] []) how.Halted [] → Learns c.stops c.stops [] [] → IsCollecting M p d0 s0 (record m { desk = e; collector = record c { tree = tree; report = report; outer = Some how.Halted } })
+  halt_step tree report e x none close behind fit others ends tells l =
+      let t : Tale = heeded k.tale ((Outer, x) ∷ []) in
+      let u : Tale = learned (outer_ended t how.Halted) [] [] in
+      let shut = closed M.told p k.tree how.Halted (seen M.view tree) none close in
+      record {
+        sound = k.sound;
+        few_faults = k.few_faults;
+        fits_desk = fit;
+        its_parts = k.its_parts;
+        moves = k.moves;
+        parts = k.parts;
+        parts_are = k.parts_are;
+        progress = closing_root k.progress (exit_of how.Halted);
+        tale = u;
+        moved = k.moved;
+        tree = shut;
+        lines = k.lines;
+        next = k.next;
+        amid = λ e. cc;
+        begun = k.begun;
+        begun_is = λ z. cc;
+        stands = stands_on M.told p (stands_halted M.told p (subst (λ o. StandsOuter p M.told k.moves k.begun c.outer_stream.outer.leased c.outer_stream.outer.tables o k.tale.memory b) none k.stands)) (seen M.view tree) (k.tale.memory || false) (λ z. or_more k.tale.memory z) close.rows close.gives;
+        streams = streams_retold M c.hub c.stops.board e (seen M.view tree) m.jobs c.left.items m.receiver k.parts (moved k.progress k.progress.waits k.progress.next k.progress.leased k.progress.tables (Some (exit_of how.Halted))) u
+            (streams_stay M c.hub c.stops.board m.desk b m.jobs c.left.items m.receiver k.parts k.progress t (streams_heeded M c.hub c.stops.board m.desk b m.jobs c.left.items m.receiver k.parts k.progress k.tale k.streams ((Outer, x) ∷ [])) c.stops.board e (seen M.view tree) refl others (others_kept 0 b (seen M.view tree) close.guests) close.rows
+            (Some how.Halted) (k.tale.set ++ []) (k.tale.seen ++ []) (k.tale.ceased || false) (k.tale.memory || false) k.progress.waits k.progress.next k.progress.leased k.progress.tables (Some (exit_of how.Halted)))
+            k.progress.out k.progress.ahead (standing k.progress) k.tale.pulled k.tale.room;
+        turns = turns_halted k.progress k.tale u refl refl k.turns;
+        places = placed_obeys (plan_bounds p) b (seen M.view tree) k.progress (closing_root k.progress (exit_of how.Halted)) k.tale u close.rows.noted (λ y i. i) (fails_then k.tale u (k.telling.outer_is ∙ none) (λ j h i. i)) k.places Outer x refl (append-nil k.tale.set)
+            (outer_behind (seen M.view tree) (closing_root k.progress (exit_of how.Halted)) how.Halted x.at (shut.main.told.root (exit_of how.Halted) refl) behind);
+        telling = tale_closes p c.outer c.report c.stops (length m.jobs) s0 m.sink (map fate_of k.parts) t (tale_heeds p c.outer c.report c.stops (length m.jobs) s0 m.sink (map fate_of k.parts) k.tale k.telling ((Outer, x) ∷ [])) how.Halted c.stops report [] [] none l k.telling.seated ends tells;
+        room = record { waiting = k.room.waiting; jobs_room = k.room.jobs_room; queue = k.room.queue; few = k.room.few; left = k.room.left };
+      }
     where
       or_more : (x : Bool) → x ≡ true → (x || false) ≡ true
       or_more true z = refl
@@ -294,11 +308,11 @@ module _ {S V F D T : Type 0} {M : Members S V F D T} {p : PlanMeant} {d0 : Depo
   pub its_spec : (s : StreamSpec) → named_stream p z.next w.path ≡ Some s → spec_of p (lines_of k.moves) (length k.parts) ≡ Some s
   its_spec s is = sym (ap (λ i. named_stream p i w.path) k.next ∙ ap (λ l. named_stream p (length k.parts) l) line_is) ∙ is
 
-  found : (context : ℕ) (x : Why) → IsAmong (interruption context x) (view_of z.stops).seen → IsFoundSet k.tale context
+  found : (context : ℕ) (x : Stop) → IsAmong (interruption context x) (view_of z.stops).seen → IsFoundSet k.tale context
   found = found_so p z.outer z.report z.stops (length m.jobs) s0 m.sink (map fate_of k.parts) k.tale k.telling
 
   -- a code that is the stream's own had been set by then, where there is room for one job alone
-  own_code : (x : Why) → IsAmong (interruption (1 + z.next) x) (view_of z.stops).seen → (deque_capacity z.jobs ≡ 1 → IsAmong (interruption (1 + z.next) x) (view_of z.stops).set) → IsOwnCode (plan_bounds p) k.tale (length k.tale.fates)
+  own_code : (x : Stop) → IsAmong (interruption (1 + z.next) x) (view_of z.stops).seen → (deque_capacity z.jobs ≡ 1 → IsAmong (interruption (1 + z.next) x) (view_of z.stops).set) → IsOwnCode (plan_bounds p) k.tale (length k.tale.fates)
   own_code x i set =
       let own : 1 + z.next ≡ suc (length k.tale.fates) = let n = counted in omega (arith, n) in (
         subst (λ n. IsFoundSet k.tale n) own (found (1 + z.next) x i),
@@ -353,16 +367,17 @@ module _ {S V F D T : Type 0} {M : Members S V F D T} {p : PlanMeant} {d0 : Depo
         streams = streams_skipped M z.hub z.stops.board m.desk a m.jobs z.left.items m.receiver k.parts k.progress k.tale k.streams z.stops.board e (seen M.view tree) refl others (others_kept 0 a (seen M.view tree) pass.guests) pass.rows x tales.Fate.Skipped (λ i. cc) (λ i. cc)
             k.tale.outer k.tale.set k.tale.seen k.tale.ceased k.tale.memory (map waiting_of ws) (suc k.progress.next) k.progress.leased k.progress.tables k.progress.root;
         turns = record { pulled = k.turns.pulled; ahead = k.turns.ahead; room = k.turns.room };
+        places = placed_same (plan_bounds p) a (seen M.view tree) k.progress (skipping k.progress (map waiting_of ws)) k.tale (fated k.tale tales.Fate.Skipped) pass.rows.noted (λ y i. i) (fails_on k.tale (fated k.tale tales.Fate.Skipped) (λ f i. i) (λ j h i. i)) k.places refl refl;
         telling = subst (λ fs. KeepsTale p z.outer z.report z.stops (length m.jobs) s0 m.sink fs (fated k.tale tales.Fate.Skipped)) (fates_on x) (tale_skips p z.outer z.report z.stops (length m.jobs) s0 m.sink (map fate_of k.parts) k.tale k.telling (cause_so may));
         room = record { waiting = k.room.waiting; jobs_room = k.room.jobs_room; queue = k.room.queue; few = k.room.few; left = let f = k.room.left in omega (arith, f, more) };
       }
 
   -- there was no memory to make its stream, and what was made for it is kept
-  pub miss_step : (tree : Tree S V D) (stops : Stops) (report : Report) (left : Vec (Leftover V) Global) (e : D) (vs cs : List Interruption) (now : DepotTold) (ds : List V) (y : Leftover V) (s : StreamSpec) → PassesOver (FinishesDevice M.told) (lessee w.lease) (rows_covered w.lease) a (seen M.view tree)
-      → Fits M.view M.fits tree e → OthersFit M.view M.fits Outer m.desk e → Marks 0 why.Memory vs cs → Learns z.stops stops vs cs → IsSeated stops → MissesStream z.next z.report report → named_stream p z.next w.path ≡ Some s → MakesUnmade M.told s m.depot now ds → y.shelf ≡ [] → y.unopened ≡ ds
+  pub miss_step : (tree : Tree S V D) (stops : Stops) (report : Report) (left : Vec (Leftover V) Global) (e : D) {stop : Stop} (vs cs : List Interruption) (now : DepotTold) (ds : List V) (y : Leftover V) (s : StreamSpec) → PassesOver (FinishesDevice M.told) (lessee w.lease) (rows_covered w.lease) a (seen M.view tree)
+      → Fits M.view M.fits tree e → OthersFit M.view M.fits Outer m.desk e → stop.why ≡ why.Memory → Marks 0 stop vs cs → Learns z.stops stops vs cs → IsSeated stops → MissesStream z.next z.report report → named_stream p z.next w.path ≡ Some s → MakesUnmade M.told s m.depot now ds → y.shelf ≡ [] → y.unopened ≡ ds
       → left.items ≡ z.left.items ++ y ∷ [] → vec_capacity left ≡ vec_capacity z.left → (again : ℕ) → length ws ≤ again → (z.outer ≡ None → 0 < again → 1 ≤ length ws)
       → IsCollecting M p d0 s0 (record m { waits = again; waiting = ws; depot = now; desk = e; collector = record z { tree = tree; stops = stops; report = report; next = z.next + 1; left = left } })
-  miss_step tree stops report left e vs cs now ds y s pass fit others mark l seated misses is makes shelf unopened pushed capacity again few some =
+  miss_step tree stops report left e vs cs now ds y s pass fit others cause mark l seated misses is makes shelf unopened pushed capacity again few some =
       let x : Part V F = Unmade ds in
       let more = snoc_length k.parts x in
       let n = k.next in
@@ -388,7 +403,9 @@ module _ {S V F D T : Type 0} {M : Members S V F D T} {p : PlanMeant} {d0 : Depo
             (streams_missed M z.hub z.stops.board m.desk a m.jobs z.left.items m.receiver k.parts k.progress k.tale k.streams stops.board e (seen M.view tree) l.board others (others_kept 0 a (seen M.view tree) pass.guests) pass.rows x tales.Fate.Unmade (λ q. cc) refl ds y refl shelf unopened count k.telling.report_is.ours
             k.tale.outer (k.tale.set ++ vs) (k.tale.seen ++ cs) true true (map waiting_of ws) (suc k.progress.next) k.progress.leased k.progress.tables k.progress.root);
         turns = record { pulled = k.turns.pulled; ahead = k.turns.ahead; room = k.turns.room };
-        telling = subst (λ fs. KeepsTale p z.outer report stops (length m.jobs) s0 m.sink fs (learned (unmade k.tale) vs cs)) (fates_on x) (tale_misses p z.outer z.report z.stops (length m.jobs) s0 m.sink (map fate_of k.parts) k.tale k.telling z.next stops report vs cs (sym counted) mark l seated misses);
+        places = placed_set (plan_bounds p) a (seen M.view tree) k.progress (skipping k.progress (map waiting_of ws)) k.tale (learned (unmade k.tale) vs cs) pass.rows.noted (λ y i. i) (fails_on k.tale (learned (unmade k.tale) vs cs) (λ f i. i) (λ j h i. i)) k.places vs refl refl
+            (placed_plain (plan_bounds p) (seen M.view tree) (skipping k.progress (map waiting_of ws)) (learned (unmade k.tale) vs cs) vs cs mark (λ i. let q : why.Memory ≡ why.Fault = sym cause ∙ i in cc) (λ i. let q : why.Memory ≡ why.Until = sym cause ∙ i in cc));
+        telling = subst (λ fs. KeepsTale p z.outer report stops (length m.jobs) s0 m.sink fs (learned (unmade k.tale) vs cs)) (fates_on x) (tale_misses p z.outer z.report z.stops (length m.jobs) s0 m.sink (map fate_of k.parts) k.tale k.telling z.next stops report vs cs (sym counted) cause mark l seated misses);
         room = record {
           waiting = k.room.waiting;
           jobs_room = k.room.jobs_room;

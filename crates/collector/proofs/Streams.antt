@@ -12,7 +12,8 @@ use Rattle.channel_bounded.specs.Ends.{HubSeen, ReceiverSeen}
 use Rattle.channel_bounded.specs.Streams.{of_stream}
 use Rattle.interrupt_ctx.specs.Ends.{BoardSeen}
 use Rattle.interrupt_ctx.specs.declared.view.Interruption.{Interruption}
-use Rattle.join_tale.specs.Steps.{fated}
+use Rattle.interrupt_ctx.specs.declared.why.Stop.{Stop}
+use Rattle.join_tale.specs.Steps.{fated, heeded}
 use Rattle.join_tale.specs.Tales as tales
 use Rattle.join_tale.specs.Tales.{Came, Fate, HasCome, IsOpen, Tale}
 use Rattle.join_tale.proofs.Places.{at_below, at_left, at_snoc}
@@ -21,6 +22,7 @@ use Rattle.join_tree.specs.Progress.{Progress}
 use Rattle.join_tree.specs.Steps.{KeepsRows}
 use Rattle.outer_stream.specs.Steps.{KeepsOthers}
 use Rattle.outer_stream.proofs.Keeping.{outs_others}
+use Rattle.res_ledger.specs.declared.event.StreamNo.{StreamNo}
 use Rattle.res_ledger.specs.declared.event.StreamNo.TheVariants.{Outer}
 use Rattle.res_ledger.specs.declared.event.What.{What}
 use Rattle.row_seat.specs.Views.{OthersFit}
@@ -142,6 +144,26 @@ module _ {S V F D T : Type 0} (M : Members S V F D T) where
       begun = ks.begun;
       gone = ks.gone;
       kept = kept_stays parts parts q (record q { out = out; ahead = ahead; last = last }) r r t (record t { pulled = pulled; room = room }) (λ k x i. i) refl refl refl (λ k h i. i) left ks.gone ks.kept;
+      apart = ks.apart;
+      numbers = ks.numbers;
+      given = ks.given;
+      home = ks.home;
+      hub_is = ks.hub_is;
+      got = ks.got;
+      made = ks.made;
+      closed = ks.closed;
+    }
+
+    -- who was halted changes nothing of them
+    pub streams_heeded : (os : List (StreamNo × Stop)) → KeepsStreams M hub board d b js left r parts q (heeded t os)
+    streams_heeded os = record {
+      origins = ks.origins;
+      jobs_are = ks.jobs_are;
+      out = ks.out;
+      opens = ks.opens;
+      begun = ks.begun;
+      gone = ks.gone;
+      kept = kept_stays parts parts q q r r t (heeded t os) (λ k x i. i) refl refl refl (λ k h i. i) left ks.gone ks.kept;
       apart = ks.apart;
       numbers = ks.numbers;
       given = ks.given;

@@ -10,7 +10,7 @@ use Rattle.device_port.proofs.Puts.{with_bytes_none}
 use Rattle.interrupt_ctx.specs.Ends.{BoardSeen}
 use Rattle.interrupt_ctx.specs.Views.{interruption}
 use Rattle.interrupt_ctx.specs.declared.view.Interruption.{Interruption}
-use Rattle.interrupt_ctx.specs.declared.why.Why.{Why}
+use Rattle.interrupt_ctx.specs.declared.why.Stop.{Stop}
 use Rattle.interrupt_ctx.specs.declared.why.Why.TheVariants as why
 use Rattle.join_report.specs.Calls.{EndsOuter, MissesStream}
 use Rattle.join_report.specs.Stopping.{IsSeated, Learns, view_of, with_seat_out}
@@ -18,13 +18,15 @@ use Rattle.join_report.specs.declared.report.Report.{Report}
 use Rattle.join_report.specs.declared.stops.Stops.{Stops}
 use Rattle.join_report.proofs.Learning.{learns_known}
 use Rattle.join_report.proofs.Steps as reports
-use Rattle.join_tale.specs.Steps.{Marks, MayBegin, TellsOuter, fated, first_tale, learned, outer_ended, unmade}
+use Rattle.join_tale.specs.Steps.{Marks, MayBegin, TellsOuter, fated, first_tale, heeded, learned, outer_ended, unmade}
 use Rattle.join_tale.specs.Tales as tales
-use Rattle.join_tale.specs.Tales.{Fate, IsFoundSet, IsKnown, Tale}
-use Rattle.join_tale.specs.Keeping.{IsOuterStopped, IsOwnCode, IsTale}
+use Rattle.join_tale.specs.Tales.{Fate, IsCaused, IsFoundSet, IsKnown, Tale}
+use Rattle.join_tale.specs.Keeping.{IsOuterStopped, IsOuterTold, IsOwnCode, IsTale}
 use Rattle.join_tale.proofs.Growing.{marked_caused, marked_known}
+use Rattle.join_tale.proofs.Heeding.{heeds}
 use Rattle.join_tale.proofs.Steps as steps
 use Rattle.join_tale.specs.Bounds.{Bounds}
+use Rattle.res_ledger.specs.declared.event.StreamNo.{StreamNo}
 use Rattle.pipeline_desc.specs.Meant.{PlanMeant, stream_limit}
 use Rattle.dealt_streams.specs.Works.{plan_bounds}
 use Rattle.collector.specs.Collecting.{KeepsTale, WritesTale}
@@ -49,6 +51,20 @@ module _ (p : PlanMeant) (outer : Option How) (report : Report) (stops : Stops) 
     seated = seated;
     seats = l.out ∙ kt.seats;
     contexts = ap (λ (b : BoardSeen). b.contexts) l.board ∙ kt.contexts;
+    wrote = record { rest = kt.wrote.rest; cut = kt.wrote.cut; wrote = kt.wrote.wrote };
+  }
+
+  -- streams were halted
+  pub tale_heeds : (os : List (StreamNo × Stop)) → KeepsTale p outer report stops out old new fates (heeded t os)
+  tale_heeds os = record {
+    is_tale = heeds (plan_bounds p) t kt.is_tale os;
+    fates_are = kt.fates_are;
+    outer_is = kt.outer_is;
+    report_is = reports.heeds p.take (stream_limit p) t report kt.report_is os;
+    known = record { set = kt.known.set; seen = kt.known.seen };
+    seated = kt.seated;
+    seats = kt.seats;
+    contexts = kt.contexts;
     wrote = record { rest = kt.wrote.rest; cut = kt.wrote.cut; wrote = kt.wrote.wrote };
   }
 
@@ -95,9 +111,9 @@ module _ (p : PlanMeant) (outer : Option How) (report : Report) (stops : Stops) 
   }
 
   -- there was no memory to make the next stream
-  pub tale_misses : (k : ℕ) (again : Stops) (told : Report) (vs cs : List Interruption) → length t.fates ≡ k → Marks 0 why.Memory vs cs → Learns stops again vs cs → IsSeated again → MissesStream k report told → KeepsTale p outer told again out old new (fates ++ tales.Fate.Unmade ∷ []) (learned (unmade t) vs cs)
-  tale_misses k again told vs cs count mark l seated misses = record {
-    is_tale = steps.wants (plan_bounds p) t kt.is_tale vs cs mark;
+  pub tale_misses : (k : ℕ) (again : Stops) (told : Report) {w : Stop} (vs cs : List Interruption) → length t.fates ≡ k → w.why ≡ why.Memory → Marks 0 w vs cs → Learns stops again vs cs → IsSeated again → MissesStream k report told → KeepsTale p outer told again out old new (fates ++ tales.Fate.Unmade ∷ []) (learned (unmade t) vs cs)
+  tale_misses k again told vs cs count cause mark l seated misses = record {
+    is_tale = steps.wants (plan_bounds p) t kt.is_tale vs cs cause mark;
     fates_are = ap (λ fs. fs ++ tales.Fate.Unmade ∷ []) kt.fates_are;
     outer_is = kt.outer_is;
     report_is = reports.learns p.take (stream_limit p) (unmade t) told (misses p.take (stream_limit p) t kt.report_is count) vs cs;
@@ -123,13 +139,16 @@ module _ (p : PlanMeant) (outer : Option How) (report : Report) (stops : Stops) 
   }
 
   -- what is found stands in the tale
-  pub found_so : (context : ℕ) (w : Why) → IsAmong (interruption context w) (view_of stops).seen → IsFoundSet t context
-  found_so context w m = (w, subst (λ l. IsAmong (interruption context w) l) (sym kt.known.seen) m)
+  pub seen_so : (context : ℕ) (w : Stop) → IsAmong (interruption context w) (view_of stops).seen → IsAmong (interruption context w) t.seen
+  seen_so context w m = subst (λ l. IsAmong (interruption context w) l) (sym kt.known.seen) m
+
+  pub found_so : (context : ℕ) (w : Stop) → IsAmong (interruption context w) (view_of stops).seen → IsFoundSet t context
+  found_so context w m = (w, seen_so context w m)
 
 -- where nothing is known of the whole run the outer stream gave all streams, if it has ended
 pub outer_done : (bounds : Bounds) (t : Tale) → IsTale bounds t → ¬ (IsKnown t 0) → (h : How) → t.outer ≡ Some h → h ≡ how.Done
 outer_done bounds t i free how.Done e = refl
-outer_done bounds t i free how.Halted e = absurd (free (inr (i.fates.outer_halted e)))
+outer_done bounds t i free how.Halted e = absurd (free (inr (let q = i.fates.outer_halted e in (q.0, q.2))))
 outer_done bounds t i free (how.Fault c) e = absurd (free (i.fates.outer_fault c e))
 outer_done bounds t i free how.Memory e = absurd (free (i.stop (wanting t.ceased refl)))
   where
@@ -141,23 +160,23 @@ outer_done bounds t i free how.Memory e = absurd (free (i.stop (wanting t.ceased
 pub tells_done : (p : PlanMeant) (u : Tale) → TellsOuter (plan_bounds p) u how.Done []
 tells_done p u = record { caused = λ context w m. absurd (among_nil m); halted = λ e. cc; fault = λ c e. cc; memory = λ e. cc }
 
-pub tells_halted : (p : PlanMeant) (u : Tale) → IsFoundSet u 0 → TellsOuter (plan_bounds p) u how.Halted []
+pub tells_halted : (p : PlanMeant) (u : Tale) → IsOuterTold u → TellsOuter (plan_bounds p) u how.Halted []
 tells_halted p u f = record { caused = λ context w m. absurd (among_nil m); halted = λ e. f; fault = λ c e. cc; memory = λ e. cc }
 
-pub tells_fault : (p : PlanMeant) (t : Tale) (c : Code) (vs cs : List Interruption) → Marks 0 why.Fault vs cs → TellsOuter (plan_bounds p) (learned (outer_ended t (how.Fault c)) vs cs) (how.Fault c) vs
-tells_fault p t c vs cs mark = record {
-  caused = marked_caused (plan_bounds p) (learned (outer_ended t (how.Fault c)) vs cs) 0 why.Fault vs cs mark (refl, inr (c, refl));
+pub tells_fault : (p : PlanMeant) (t : Tale) (c : Code) (w : Stop) (vs cs : List Interruption) → w.why ≡ why.Fault → Marks 0 w vs cs → TellsOuter (plan_bounds p) (learned (outer_ended t (how.Fault c)) vs cs) (how.Fault c) vs
+tells_fault p t c w vs cs cause mark = record {
+  caused = marked_caused (plan_bounds p) (learned (outer_ended t (how.Fault c)) vs cs) 0 w vs cs mark (subst (λ y. IsCaused (plan_bounds p) (learned (outer_ended t (how.Fault c)) vs cs) 0 y) (sym cause) (refl, inr (c, refl)));
   halted = λ e. cc;
-  fault = λ d e. marked_known (outer_ended t (how.Fault c)) 0 why.Fault vs cs mark;
+  fault = λ d e. marked_known (outer_ended t (how.Fault c)) 0 w vs cs mark;
   memory = λ e. cc;
 }
 
-pub tells_memory : (p : PlanMeant) (t : Tale) (vs cs : List Interruption) → Marks 0 why.Memory vs cs → TellsOuter (plan_bounds p) (learned (outer_ended t how.Memory) vs cs) how.Memory vs
-tells_memory p t vs cs mark = record {
-  caused = marked_caused (plan_bounds p) (learned (outer_ended t how.Memory) vs cs) 0 why.Memory vs cs mark (refl, or_true t.memory);
+pub tells_memory : (p : PlanMeant) (t : Tale) (w : Stop) (vs cs : List Interruption) → w.why ≡ why.Memory → Marks 0 w vs cs → TellsOuter (plan_bounds p) (learned (outer_ended t how.Memory) vs cs) how.Memory vs
+tells_memory p t w vs cs cause mark = record {
+  caused = marked_caused (plan_bounds p) (learned (outer_ended t how.Memory) vs cs) 0 w vs cs mark (subst (λ y. IsCaused (plan_bounds p) (learned (outer_ended t how.Memory) vs cs) 0 y) (sym cause) (refl, or_true t.memory));
   halted = λ e. cc;
   fault = λ d e. cc;
-  memory = λ e. marked_known (outer_ended t how.Memory) 0 why.Memory vs cs mark;
+  memory = λ e. marked_known (outer_ended t how.Memory) 0 w vs cs mark;
 }
   where
     or_true : (b : Bool) → (b || true) ≡ true

@@ -1,5 +1,5 @@
 -- The turn of the next stream begins.
-use Rattle.std.proofs.Common.{◌≡◌, ◌⊎◌, ℕ, suc, ◌+◌, ◌<◌, ◌≤◌, List, [], ◌∷◌, ◌++◌, map, length, Option, inl, inr, sym, ◌∙◌, ap, subst, ⊎_elim, arith}
+use Rattle.std.proofs.Common.{◌≡◌, ◌⊎◌, ℕ, suc, ◌+◌, ◌<◌, ◌≤◌, List, [], ◌∷◌, ◌++◌, map, length, Option, inl, inr, refl, sym, ◌∙◌, ap, subst, ⊎_elim, arith}
 use Rattle.std.proofs.lemmas.Bool.{cases_eq}
 use Rattle.chunk_core.specs.Lists.{IsAmong}
 use Rattle.chunk_core.specs.Lists.IsAmong.{here, there}
@@ -37,6 +37,7 @@ use Rattle.collector.specs.Members.{Members}
 use Rattle.collector.specs.Streams.{guest_of}
 use Rattle.collector.specs.Trees.{KeepsTree, waiting_of}
 use Rattle.collector.proofs.Lists.{map_length}
+use Rattle.collector.proofs.Placed.{fails_on, placed_same}
 use Rattle.collector.proofs.Streams.{jobs_number, streams_retold}
 use Rattle.collector.proofs.Telling.{tale_turns}
 use Rattle.collector.proofs.Turns.{IsReady}
@@ -96,6 +97,7 @@ module _ {S V F D T : Type 0} {M : Members S V F D T} {p : PlanMeant} {d0 : Depo
     stands = k.stands;
     streams = streams_retold M c.hub c.stops.board m.desk b m.jobs c.left.items m.receiver k.parts k.progress k.tale k.streams out k.progress.ahead k.progress.last ps room;
     turns = turns;
+    places = placed_same (plan_bounds p) b b k.progress (telling_out k.progress out) k.tale (record k.tale { pulled = ps; room = room }) (λ e i. i) (λ y i. i) (fails_on k.tale (record k.tale { pulled = ps; room = room }) (λ f i. i) (λ j h i. i)) k.places refl refl;
     telling = tale_turns p c.outer c.report c.stops (length m.jobs) s0 m.sink (map fate_of k.parts) k.tale k.telling ps room is;
     room = k.room;
   }

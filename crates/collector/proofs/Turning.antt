@@ -130,7 +130,7 @@ module _ {S V F D T : Type 0} {M : Members S V F D T} {p : PlanMeant} {d0 : Depo
         contexts = i.telling.contexts;
         wrote = i.telling.wrote;
       })
-      i.turns (swapped_length xs ys) room
+      i.turns i.places (swapped_length xs ys) room
 
   -- the first job is that of the first origin
   pub first_of : (j : Job S V F V D T) (js : List (Job S V F V D T)) (i : IsCollecting M p d0 s0 (record m { jobs = j ∷ js })) → (w : Origin V F) × (os : List (Origin V F)) × (i.streams.origins ≡ w ∷ os) × IsJobOf M m.collector.hub m.collector.stops.board m.desk i.parts j w × AreJobs M m.collector.hub m.collector.stops.board m.desk i.parts js os
@@ -192,7 +192,7 @@ module _ {S V F D T : Type 0} {M : Members S V F D T} {p : PlanMeant} {d0 : Depo
         made = i.streams.made;
         closed = i.streams.closed;
       })
-      i.telling i.turns refl refl
+      i.telling i.turns i.places refl refl
 
   -- and stands behind the others
   pub turn_taken : ((w : Origin V F) → IsJob M.view M.values M.told M.stands w j → IsJob M.view M.values M.told M.stands w x) → IsSameJob (seen_job M.view M.values j) (seen_job M.view M.values x) → FitsJob M.view M.told M.fits x e
@@ -226,6 +226,7 @@ module _ {S V F D T : Type 0} {M : Members S V F D T} {p : PlanMeant} {d0 : Depo
     stands = i.stands;
     streams = i.streams;
     turns = i.turns;
+    places = i.places;
     telling = i.telling;
     room = record { waiting = i.room.waiting; jobs_room = i.room.jobs_room; queue = i.room.queue; few = i.room.few; left = i.room.left };
   }

@@ -21,6 +21,7 @@ use Rattle.stream_jobs.specs.declared.job.Job.{Job}
 use Rattle.dealt_streams.specs.Moves.{AreMoved, Move, dealt_of, lines_of, opened_of}
 use Rattle.dealt_streams.specs.Parts.{Part, fate_of}
 use Rattle.dealt_streams.specs.Standing.{StandsOuter, plan_parts}
+use Rattle.dealt_streams.specs.Places.{KeepsPlaces}
 use Rattle.dealt_streams.specs.Turns.{KeepsTurns}
 use Rattle.dealt_streams.specs.Works.{plan_bounds}
 use Rattle.collector.specs.declared.collector.Collector.{Collector}
@@ -108,6 +109,7 @@ module _ {S V F D T : Type 0} (M : Members S V F D T) (p : PlanMeant) where
     pub stands : StandsOuter p M.told moves begun m.collector.outer_stream.outer.leased m.collector.outer_stream.outer.tables m.collector.outer tale.memory (seen M.view m.collector.tree)
     pub streams : KeepsStreams M m.collector.hub m.collector.stops.board m.desk (seen M.view m.collector.tree) m.jobs m.collector.left.items m.receiver parts progress tale
     pub turns : KeepsTurns progress tale
+    pub places : KeepsPlaces (plan_bounds p) (seen M.view m.collector.tree) progress tale
     pub telling : KeepsTale p m.collector.outer m.collector.report m.collector.stops (length m.jobs) s0 m.sink (map fate_of parts) tale
     pub room : HasRoom p (length m.jobs) (length parts) m.collector
 

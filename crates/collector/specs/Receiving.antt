@@ -5,7 +5,7 @@ use Rattle.channel_bounded.specs.Ends.{ReceiverSeen, ReceiverSees}
 use Rattle.channel_bounded.specs.declared.message.Msg.{Msg}
 use Rattle.interrupt_ctx.specs.Views.{interruption}
 use Rattle.interrupt_ctx.specs.declared.view.Interruption.{Interruption}
-use Rattle.interrupt_ctx.specs.declared.why.Why.{Why}
+use Rattle.interrupt_ctx.specs.declared.why.Stop.{Stop}
 use Rattle.interrupt_ctx.specs.declared.why.Why.TheVariants as why
 use Rattle.join_report.specs.Stopping.{Learns}
 use Rattle.join_report.specs.declared.stops.Stops.{Stops}
@@ -40,18 +40,22 @@ pub record GoesBehind {S V F D T : Type 0} (k : ℕ) (old new : List (Job S V F 
 abbrev pub EndsWith : PlanMeant → ℕ → ℕ → Type 0
 EndsWith p k i = (s : StreamSpec) × (slice_get p.streams i ≡ Some s) × (s.until ≡ Some k)
 
--- stream i was interrupted, or found so, if it is to end with stream k, and no other one was
-pub record StopsOne (p : PlanMeant) (k i : ℕ) (old new : Stops) : Type 0 where
-  pub set : List Interruption
-  pub seen : List Interruption
-  pub learns : Learns old new set seen
-  pub only : (context : ℕ) (w : Why) → IsAmong (interruption context w) set → (w ≡ why.Until) × (context ≡ suc i) × EndsWith p k i
-  pub known : EndsWith p k i → (w : Why) × (IsAmong (interruption (suc i) w) set ⊎ IsAmong (interruption (suc i) w) seen)
+-- what interrupts a stream that is to end with another one, behind n events of the ledger
+abbrev pub until_at : ℕ → Stop
+until_at n = record { why = why.Until; at = n }
 
--- each of the first n streams that is to end with stream k was interrupted, or found so, and no other one was
-pub record StopsThose (p : PlanMeant) (k n : ℕ) (old new : Stops) : Type 0 where
+-- stream i was interrupted behind n events of the ledger, or found interrupted, if it is to end with stream k, and no other one was
+pub record StopsOne (p : PlanMeant) (k i n : ℕ) (old new : Stops) : Type 0 where
   pub set : List Interruption
   pub seen : List Interruption
   pub learns : Learns old new set seen
-  pub only : (context : ℕ) (w : Why) → IsAmong (interruption context w) set → (w ≡ why.Until) × ((i : ℕ) × (context ≡ suc i) × EndsWith p k i)
-  pub each : (i : ℕ) → i < n → EndsWith p k i → (w : Why) × (IsAmong (interruption (suc i) w) set ⊎ IsAmong (interruption (suc i) w) seen)
+  pub only : (context : ℕ) (w : Stop) → IsAmong (interruption context w) set → (w ≡ until_at n) × (context ≡ suc i) × EndsWith p k i
+  pub known : EndsWith p k i → (w : Stop) × (IsAmong (interruption (suc i) w) set ⊎ IsAmong (interruption (suc i) w) seen)
+
+-- each of the first `count` streams that is to end with stream k was interrupted behind n events of the ledger, or found interrupted, and no other one was
+pub record StopsThose (p : PlanMeant) (k count n : ℕ) (old new : Stops) : Type 0 where
+  pub set : List Interruption
+  pub seen : List Interruption
+  pub learns : Learns old new set seen
+  pub only : (context : ℕ) (w : Stop) → IsAmong (interruption context w) set → (w ≡ until_at n) × ((i : ℕ) × (context ≡ suc i) × EndsWith p k i)
+  pub each : (i : ℕ) → i < count → EndsWith p k i → (w : Stop) × (IsAmong (interruption (suc i) w) set ⊎ IsAmong (interruption (suc i) w) seen)

@@ -1,5 +1,5 @@
 -- How a collector begins, and what its small calls do.
-use Rattle.std.specs.Prelude.{◌≡◌, ◌≢◌, ◌⊎◌, ℕ, ◌+◌, ◌*◌, ◌≤◌, Bool, true, List, [], ◌∷◌, ◌++◌, length, option_to_list, Option, Some, None, IsSome, vec_capacity}
+use Rattle.std.specs.Prelude.{◌≡◌, ◌≢◌, ◌⊎◌, ℕ, ◌+◌, ◌*◌, ◌<◌, ◌≤◌, Bool, true, List, [], ◌∷◌, ◌++◌, length, option_to_list, Option, Some, None, IsSome, vec_capacity}
 use Rattle.std.specs.VecDeque.{deque_capacity}
 use Rattle.chunk_core.specs.Lists.{IsAmong}
 use Rattle.chunk_core.specs.Outcomes.{exit_of}
@@ -10,10 +10,12 @@ use Rattle.chunk_core.specs.declared.code.How.TheVariants as how
 use Rattle.device_port.specs.Device.{DeviceTold}
 use Rattle.interrupt_ctx.specs.Ends.{first_seat}
 use Rattle.interrupt_ctx.specs.Views.{Knows, interruption, split_off}
+use Rattle.interrupt_ctx.specs.declared.why.Stop.{Stop}
 use Rattle.interrupt_ctx.specs.declared.why.Why.{Why}
 use Rattle.interrupt_ctx.specs.declared.why.Why.TheVariants as why
 use Rattle.join_report.specs.Reports.{IsReport}
-use Rattle.join_report.specs.Stopping.{IsSeated, IsUnknown, view_of, with_seat_out}
+use Rattle.join_report.specs.Stopping.{Interrupts, IsSeated, IsUnknown, view_of, with_seat_out}
+use Rattle.join_report.specs.declared.stops.Stops.{Stops}
 use Rattle.join_tale.specs.Steps.{first_tale}
 use Rattle.join_tree.specs.Given.{GivesMore}
 use Rattle.join_tree.specs.Mains.{IsMain}
@@ -28,7 +30,9 @@ use Rattle.pull_nodes.specs.declared.node.Node.{Node}
 use Rattle.pull_stepper.specs.Held.{FinishesDevice}
 use Rattle.pull_stepper.specs.Placing.{first_of}
 use Rattle.pull_stepper.specs.Stepping.{begun}
+use Rattle.res_ledger.specs.declared.event.Event.{Event}
 use Rattle.res_ledger.specs.declared.event.StreamNo.TheVariants.{Outer}
+use Rattle.res_ledger.specs.declared.event.What.TheVariants.{Close}
 use Rattle.row_seat.specs.declared.view.View.{View}
 use Rattle.row_seat.specs.Views.{IsWithin, start}
 use Rattle.scope_tree.specs.Calls.{KeepsScopes, Seen, TakesRoom, used}
@@ -36,6 +40,7 @@ use Rattle.scope_tree.specs.Released.{away}
 use Rattle.scope_tree.specs.declared.room.Room.{Room}
 use Rattle.scope_tree.specs.Trees.{Fits, seen}
 use Rattle.scope_tree.specs.Visible.{row_room, scope_room}
+use Rattle.tree_laws.specs.Called.{Called}
 use Rattle.stream_jobs.specs.declared.job.Job.{Job}
 use Rattle.stream_jobs.specs.Jobs.{FitsJob, IsAt, IsJob, seen_job}
 use Rattle.stream_jobs.specs.Running.{Origin}
@@ -118,6 +123,15 @@ module _ {P : Type 0} (ends : P → Exit → Bool → P → Type 0) where
     pub rows : KeepsRows a.seat b.seat
     pub gives : GivesMore [] a b
     pub events : TakesEvents 0 a b
+    pub called : Called ends a [] b
+
+-- the outer stream closed its root behind the first n events of the ledger
+abbrev pub ClosesOuterBehind : {P : Type 0} → ℕ → Seen P → Type 0
+ClosesOuterBehind n b = (e : Event) (x : Exit) → IsAmong e b.seat.events → e.by ≡ Outer → e.what ≡ Close 0 x → n ≤ e.stamp
+
+-- the whole run was interrupted for this cause, behind all that the main tree has noted, or found interrupted
+abbrev pub StopsBehind : {P : Type 0} → Seen P → Stops → Stops → Why → Type 0
+StopsBehind b old new why = (w : Stop) × (w.why ≡ why) × ((e : Event) → IsAmong e b.seat.events → e.stamp < w.at) × Interrupts old new 0 w
 
 -- why the run is interrupted where the outer stream is over so: it failed, or memory was wanting
 abbrev pub cause_of : How → Option Why
@@ -128,11 +142,11 @@ cause_of how.Memory = Some why.Memory
 
 -- a code was found for the next stream, its own, which was set by then where there is room for one job alone, or that of the whole run, or the outer stream was stopped
 abbrev pub MaySkip : {S V F D T : Type 0} → Collector S V F D T → Type 0
-MaySkip c = ((w : Why) × IsAmong (interruption 0 w) (view_of c.stops).seen) ⊎ ((w : Why) × IsAmong (interruption (1 + c.next) w) (view_of c.stops).seen × (deque_capacity c.jobs ≡ 1 → IsAmong (interruption (1 + c.next) w) (view_of c.stops).set)) ⊎ ((h : How) × (c.outer ≡ Some h) × (h ≢ how.Done))
+MaySkip c = ((w : Stop) × IsAmong (interruption 0 w) (view_of c.stops).seen) ⊎ ((w : Stop) × IsAmong (interruption (1 + c.next) w) (view_of c.stops).seen × (deque_capacity c.jobs ≡ 1 → IsAmong (interruption (1 + c.next) w) (view_of c.stops).set)) ⊎ ((h : How) × (c.outer ≡ Some h) × (h ≢ how.Done))
 
 -- where the whole run is known to be interrupted, the outer stream has ended, and gave no further stream
 abbrev pub GivesNoneIfStopped : {S V F D T : Type 0} → Collector S V F D T → Collector S V F D T → Type 0
-GivesNoneIfStopped old new = (w : Why) → old.outer ≡ None → Knows (view_of old.stops) 0 w → IsSome new.outer × (new.outer_stream.outer.leased ≡ old.outer_stream.outer.leased)
+GivesNoneIfStopped old new = (w : Stop) → old.outer ≡ None → Knows (view_of old.stops) 0 w → IsSome new.outer × (new.outer_stream.outer.leased ≡ old.outer_stream.outer.leased)
 
 -- a further stream waits, or the outer stream has ended
 abbrev pub IsAhead : {S V F D T : Type 0} → Collector S V F D T → Type 0

@@ -13,6 +13,11 @@
 //! write and the last frame that is wanted interrupt the run, and the report tells them. It may wait, and
 //! no clause says that the rounds come to an end.
 //!
+//! Who interrupts for a fault, or as a stream has ended with which others are to end, has closed a root
+//! before, and names how far the ledger was then; the outer stream that finds an interruption waits until
+//! its seat sees the ledger so far before it closes its own. So what stops another one ends first in the
+//! ledger too (`KeepsPlaces` of `dealt_streams`).
+//!
 //! Each worker has a desk, and handles on the queue and the board, of its own, which are made before the
 //! seat of its stream is split off: where there is no memory for them the stream is never begun. Where no
 //! thread can be started the job stays here, and has a turn in each round in which nothing comes. Where

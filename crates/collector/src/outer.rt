@@ -4,31 +4,33 @@ ghost use Rattle.std.specs.VecDeque.{deque_capacity};
 ghost use Rattle.device_port.specs.Depot.{DepotTold};
 ghost use Rattle.device_port.specs.Sink.{SinkTold};
 ghost use Rattle.join_report.specs.Calls.{EndsOuter};
-ghost use Rattle.join_report.specs.Stopping.{Interrupts, IsSeated, IsUnknown, view_of};
+ghost use Rattle.join_report.specs.Stopping.{IsSeated, IsUnknown, view_of};
 ghost use Rattle.join_tree.specs.Mains.{IsMain};
 ghost use Rattle.join_tree.specs.Progress.{Progress};
 ghost use Rattle.pipeline_desc.specs.Meant.{PlanMeant};
 ghost use Rattle.pull_stepper.specs.Held.{FinishesDevice};
 ghost use Rattle.pull_turns.specs.Piping.{standing};
 ghost use Rattle.res_ledger.specs.declared.event.StreamNo.TheVariants.{Outer as outer_name};
+ghost use Rattle.row_seat.specs.Fronts.{sight_of};
 ghost use Rattle.row_seat.specs.Views.{OthersFit};
 ghost use Rattle.scope_tree.specs.Trees.{Fits, seen};
 ghost use Rattle.collector.specs.Collecting.{GoesOn, IsCollecting, IsUnderWay, between};
 ghost use Rattle.collector.specs.Members.{members};
-ghost use Rattle.collector.specs.Starting.{ClosesOuter, GivesNoneIfStopped, IsFresh, MaySkip, cause_of};
+ghost use Rattle.collector.specs.Starting.{ClosesOuter, ClosesOuterBehind, GivesNoneIfStopped, IsFresh, MaySkip, StopsBehind, cause_of};
 
 use crate::collector::Collector;
 use crate::waiting::Waiting;
 use chunk_core::{How, Word};
 use device_port::{Depot, Device};
-use interrupt_ctx::Why;
+use interrupt_ctx::{Stop, Why};
 use outer_source::Next;
 use pipeline_desc::Plan;
 use pull_nodes::PipeState;
 use pull_stepper::Held;
-use row_seat::RowSeat;
+use row_seat::{MarksFront, RowSeat};
 use scope_tree::Lease;
 use std::alloc::Global;
+use std::sync::Wait;
 
 /// Whether no frame is wanted.
 fn wants_none(most: Option<u64>) -> bool
@@ -49,7 +51,10 @@ fn why_stopped(how: How) -> Option<Why>
     }
 }
 
-impl<V: Device + Drop, S: RowSeat<Pay = Held<V>>, F: PipeState> Collector<S, V, F> {
+impl<V: Device + Drop, S: MarksFront + RowSeat<Pay = Held<V>>, F: PipeState> Collector<S, V, F>
+where
+    S::Mark: Drop,
+{
     /// Passes over the stream that waits, where one does.
     fn skip(&mut self, desk: &mut S::Desk)
         requires collecting { (p : PlanMeant) × (depot : DepotTold) × (sink : SinkTold) × IsUnderWay (members S.view V.told S.fits F.values (standing F.stands F.comes)) p (between 1 depot sink desk.old self.old) }
@@ -66,13 +71,13 @@ impl<V: Device + Drop, S: RowSeat<Pay = Held<V>>, F: PipeState> Collector<S, V, 
         }
     }
 
-    /// Interrupts the whole run, and ends the outer stream.
+    /// Ends the outer stream, and interrupts the whole run behind that.
     fn stop(&mut self, desk: &mut S::Desk, why: Why, how: How)
         requires seated { IsSeated self.old.stops }
         requires context { 0 < self.old.stops.board.contexts }
         requires fits { Fits S.view S.fits self.old.tree desk.old }
         requires main { (width n : ℕ) × (p : Progress V) × IsMain (FinishesDevice V.told) width n (seen S.view self.old.tree) p × (p.root ≡ None) }
-        ensures marks { Interrupts self.old.stops self.new.stops 0 why }
+        ensures marks { StopsBehind (seen S.view self.new.tree) self.old.stops self.new.stops why }
         ensures seated { IsSeated self.new.stops }
         ensures closes { ClosesOuter (FinishesDevice V.told) how (seen S.view self.old.tree) (seen S.view self.new.tree) }
         ensures report { EndsOuter how self.old.report self.new.report }
@@ -80,19 +85,62 @@ impl<V: Device + Drop, S: RowSeat<Pay = Held<V>>, F: PipeState> Collector<S, V, 
         ensures fits { Fits S.view S.fits self.new.tree desk.new }
         ensures others { OthersFit S.view S.fits outer_name desk.old desk.new }
     {
-        self.stops.interrupt(0, why);
         self.close(desk, how);
+        let (at, _mark) = self.tree.mark(desk);
+        self.stops.interrupt(0, Stop { why, at });
+    }
+
+    /// Waits until the main tree's seat sees that the ledger has so many events. The mark keeps what it
+    /// saw then.
+    fn see_so_far<R: Wait>(&mut self, rt: &R, desk: &mut S::Desk, least: u64) -> S::Mark
+        requires fits { Fits S.view S.fits self.old.tree desk.old }
+        ensures front { least ≤ (S.sight result).front }
+        ensures sight { S.sight result ≡ sight_of (seen S.view self.old.tree).seat (S.sight result).front }
+        ensures marked { S.marked result desk.new }
+        ensures seen { seen S.view self.new.tree ≡ seen S.view self.old.tree }
+        ensures same { self.new ≡ record self.old { tree = self.new.tree } }
+        ensures fits { Fits S.view S.fits self.new.tree desk.new }
+        ensures others { OthersFit S.view S.fits (seen S.view self.old.tree).seat.by desk.old desk.new }
+    {
+        'looks: for _ in rt.forever() {
+            let (front, mark) = self.tree.mark(desk);
+            if least <= front {
+                return mark;
+            }
+        }
+        unreachable!()
+    }
+
+    /// Ends the outer stream, which is interrupted, behind so many events of the ledger.
+    fn halt<R: Wait>(&mut self, rt: &R, desk: &mut S::Desk, at: u64)
+        requires fits { Fits S.view S.fits self.old.tree desk.old }
+        requires main { (width n : ℕ) × (p : Progress V) × IsMain (FinishesDevice V.told) width n (seen S.view self.old.tree) p × (p.root ≡ None) }
+        ensures closes { ClosesOuter (FinishesDevice V.told) How.Halted (seen S.view self.old.tree) (seen S.view self.new.tree) }
+        ensures behind { ClosesOuterBehind at (seen S.view self.new.tree) }
+        ensures report { EndsOuter How.Halted self.old.report self.new.report }
+        ensures same { self.new ≡ record self.old { tree = self.new.tree; report = self.new.report; outer = Some How.Halted } }
+        ensures fits { Fits S.view S.fits self.new.tree desk.new }
+        ensures others { OthersFit S.view S.fits outer_name desk.old desk.new }
+    {
+        let mark = self.see_so_far(rt, desk, at);
+        self.close(desk, How::Halted);
+        self.tree.recall(desk, mark);
     }
 
     /// No frame is wanted: the run is interrupted, and the outer stream ends, which finds that.
-    fn want_none(&mut self, desk: &mut S::Desk, plan: &Plan)
+    fn want_none<R: Wait>(&mut self, rt: &R, desk: &mut S::Desk, plan: &Plan)
         requires none { plan.now.take ≡ Some 0 }
         requires fresh { IsFresh (members S.view V.told S.fits F.values (standing F.stands F.comes)) plan.now desk.old self.old }
         ensures collecting { (d0 : DepotTold) (s0 : SinkTold) → s0.faults < 2 ^ 64 - 1 → IsCollecting (members S.view V.told S.fits F.values (standing F.stands F.comes)) plan.now d0 s0 (between 1 d0 s0 desk.new self.new) }
     {
-        self.stops.interrupt(0, Why::Take);
-        if self.stops.is_set(0) {
-            self.close(desk, How::Halted);
+        let stop = Stop {
+            why: Why::Take,
+            at: 0,
+        };
+        self.stops.interrupt(0, stop);
+        match self.stops.look(0) {
+            Some(found) => self.halt(rt, desk, found.at),
+            None => {}
         }
     }
 
@@ -147,8 +195,9 @@ impl<V: Device + Drop, S: RowSeat<Pay = Held<V>>, F: PipeState> Collector<S, V, 
     }
 
     /// Pulls the outer stream for the first time, unless no frame is wanted.
-    pub(crate) fn open<D: Depot<Dev = V>>(
+    pub(crate) fn open<R: Wait, D: Depot<Dev = V>>(
         &mut self,
+        rt: &R,
         alloc: Global,
         desk: &mut S::Desk,
         plan: &Plan,
@@ -158,17 +207,18 @@ impl<V: Device + Drop, S: RowSeat<Pay = Held<V>>, F: PipeState> Collector<S, V, 
         ensures collecting { (s0 : SinkTold) → s0.faults < 2 ^ 64 - 1 → IsCollecting (members S.view V.told S.fits F.values (standing F.stands F.comes)) plan.now (D.told depot.old) s0 (between 1 (D.told depot.new) s0 desk.new self.new) }
     {
         if wants_none(plan.take()) {
-            self.want_none(desk, plan);
+            self.want_none(rt, desk, plan);
         } else {
             self.draw::<D>(alloc, desk, plan, depot);
         }
     }
 
     /// Pulls the outer stream once more, unless it has ended: where the run is interrupted the stream
-    /// that waits is never begun and the outer stream ends, else it gives the next stream, which waits
-    /// too.
-    pub(crate) fn pull<D: Depot<Dev = V>>(
+    /// that waits is never begun and the outer stream ends behind what the interruption names, else it
+    /// gives the next stream, which waits too.
+    pub(crate) fn pull<R: Wait, D: Depot<Dev = V>>(
         &mut self,
+        rt: &R,
         alloc: Global,
         desk: &mut S::Desk,
         plan: &Plan,
@@ -184,11 +234,12 @@ impl<V: Device + Drop, S: RowSeat<Pay = Held<V>>, F: PipeState> Collector<S, V, 
         if self.outer.is_some() {
             return;
         }
-        if self.stops.is_set(0) {
-            self.skip(desk);
-            self.close(desk, How::Halted);
-        } else {
-            self.draw::<D>(alloc, desk, plan, depot);
+        match self.stops.look(0) {
+            Some(found) => {
+                self.skip(desk);
+                self.halt(rt, desk, found.at);
+            }
+            None => self.draw::<D>(alloc, desk, plan, depot),
         }
     }
 }

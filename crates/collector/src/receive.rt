@@ -35,13 +35,13 @@ use channel_bounded::{Body, Msg};
 use chunk_core::{How, Load};
 use dealt_streams::Leftover;
 use device_port::{Device, Gate, Sink};
-use interrupt_ctx::Why;
+use interrupt_ctx::{Stop, Why};
 use join_report::Stops;
 use join_tree::take_in;
 use pipeline_desc::Plan;
 use pull_nodes::PipeState;
 use pull_stepper::Held;
-use row_seat::RowSeat;
+use row_seat::{MarksFront, RowSeat};
 use std::alloc::Global;
 use std::sync::Wait;
 use std::thread::Threads;
@@ -60,33 +60,42 @@ fn ends_with(plan: &Plan, i: u32, stream: u32) -> bool
     }
 }
 
-/// Interrupts the stream i, if it is to end with this one.
-fn stop_until(stops: &mut Stops, plan: &Plan, i: u32, stream: u32)
+/// Interrupts the stream i, if it is to end with this one, behind so much of the ledger.
+fn stop_until(stops: &mut Stops, plan: &Plan, i: u32, stream: u32, at: u64)
+    requires at { at < 2 ^ 60 }
     requires seated { IsSeated stops.old }
     requires context { i + 1 < stops.old.board.contexts }
     requires number { i < length plan.now.streams }
     requires small { i < 2 ^ 32 - 1 }
-    ensures stops { StopsOne plan.now stream i stops.old stops.new }
+    ensures stops { StopsOne plan.now stream i at stops.old stops.new }
     ensures seated { IsSeated stops.new }
 {
     if ends_with(plan, i, stream) {
-        stops.interrupt(1 + i, Why::Until);
+        let stop = Stop {
+            why: Why::Until,
+            at,
+        };
+        stops.interrupt(1 + i, stop);
     }
 }
 
-/// Interrupts each stream that is to end with this one.
-fn stop_those_until(stops: &mut Stops, plan: &Plan, stream: u32)
+/// Interrupts each stream that is to end with this one, behind so much of the ledger.
+fn stop_those_until(stops: &mut Stops, plan: &Plan, stream: u32, at: u64)
+    requires at { at < 2 ^ 60 }
     requires seated { IsSeated stops.old }
     requires contexts { length plan.now.streams < stops.old.board.contexts }
-    ensures stops { StopsThose plan.now stream (length plan.now.streams) stops.old stops.new }
+    ensures stops { StopsThose plan.now stream (length plan.now.streams) at stops.old stops.new }
     ensures seated { IsSeated stops.new }
 {
     for i in 0..plan.streams().len() as u32 {
-        stop_until(stops, plan, i, stream);
+        stop_until(stops, plan, i, stream, at);
     }
 }
 
-impl<V: Device + Drop, S: RowSeat<Pay = Held<V>>, F: PipeState> Collector<S, V, F> {
+impl<V: Device + Drop, S: MarksFront + RowSeat<Pay = Held<V>>, F: PipeState> Collector<S, V, F>
+where
+    S::Mark: Drop,
+{
     /// Receives the next message, where one is queued.
     pub(crate) fn receive_next<R: Threads + Wait, K: Sink, G: Gate>(
         &mut self,
@@ -141,7 +150,7 @@ impl<V: Device + Drop, S: RowSeat<Pay = Held<V>>, F: PipeState> Collector<S, V, 
         ensures collecting { (p : PlanMeant) (depot : DepotTold) (d : S.Desk) (had : ReceiverSeen) → HasGot had (load_message stream load.now) self.old.receiver → GoesOn (members S.view V.told S.fits F.values (standing F.stands F.comes)) p (having_received had (between 1 depot (K.told out.old) d self.old)) (between 1 depot (K.told out.new) d self.new) }
     {
         match self.report.write(alloc, out, stream, load) {
-            Some(why) => self.stops.interrupt(0, why),
+            Some(why) => self.stops.interrupt(0, Stop { why, at: 0 }),
             None => {}
         }
     }
@@ -208,7 +217,7 @@ impl<V: Device + Drop, S: RowSeat<Pay = Held<V>>, F: PipeState> Collector<S, V, 
     }
 
     /// The end of an open stream came, whose job was taken out of the open ones: what is left of it is
-    /// taken in, and the streams that are to end with it are interrupted.
+    /// taken in, and the streams that are to end with it are interrupted behind that.
     fn end_job<R: Threads + Wait, G: Gate>(
         &mut self,
         rt: &R,
@@ -228,7 +237,8 @@ impl<V: Device + Drop, S: RowSeat<Pay = Held<V>>, F: PipeState> Collector<S, V, 
         let left = self.finish(rt, desk, gate, job);
         self.take_back(desk, left);
         self.report.end(stream, how);
-        stop_those_until(&mut self.stops, plan, stream);
+        let (at, _mark) = self.tree.mark(desk);
+        stop_those_until(&mut self.stops, plan, stream, at);
     }
 
     /// Waits for the worker of a job, runs the job to its end if it was here, and takes it apart.

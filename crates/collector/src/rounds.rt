@@ -19,14 +19,21 @@ use device_port::{Depot, Device, Gate, Sink};
 use pipeline_desc::Plan;
 use pull_nodes::PipeState;
 use pull_stepper::Held;
-use row_seat::RowSeat;
+use row_seat::{MarksFront, RowSeat};
 use row_shared::SharesDesk;
 use std::alloc::Global;
 use std::sync::Wait;
 use std::thread::{Scope, Threads};
 use stream_workers::{Open, Pause, Place};
 
-impl<V: Device + Drop, S: SharesDesk + RowSeat<Pay = Held<V>>, F: PipeState> Collector<S, V, F> {
+impl<V: Device + Drop, S: SharesDesk + MarksFront + RowSeat<Pay = Held<V>>, F: PipeState> Collector<
+    S,
+    V,
+    F,
+>
+where
+    S::Mark: Drop,
+{
     /// Receives the next message; where none is queued it gives each open stream that is here a turn.
     /// Whether one came, or such a stream is open.
     fn go_on<R: Threads + Wait, K: Sink, G: Gate>(
@@ -107,11 +114,12 @@ impl<V: Device + Drop, S: SharesDesk + RowSeat<Pay = Held<V>>, F: PipeState> Col
 
 impl<
     V: Device + Drop + Send,
-    S: SharesDesk + RowSeat<Pay = Held<V>> + Drop + Send,
+    S: SharesDesk + MarksFront + RowSeat<Pay = Held<V>> + Drop + Send,
     F: PipeState<Tables = Dicts> + Send,
 > Collector<S, V, F>
 where
     S::Desk: Drop + Send,
+    S::Mark: Drop + Send,
 {
     /// Runs the outer stream and all that it gives to their ends.
     pub fn run<
@@ -143,7 +151,7 @@ where
         ensures waiting { self.new.waiting.items ≡ [] }
         ensures jobs { self.new.jobs.items ≡ [] }
     {
-        self.open::<D>(alloc, desk, plan, depot);
+        self.open::<R, D>(place.rt, alloc, desk, plan, depot);
         self.run_rounds(scope, place, alloc, desk, plan, depot, out)
     }
 

@@ -30,13 +30,13 @@ use chunk_core::{List, Word};
 use csv_pipes::Dicts;
 use dealt_streams::Leftover;
 use device_port::{Depot, Device, Gate};
-use interrupt_ctx::{BoardRef, Why};
+use interrupt_ctx::{BoardRef, Stop, Why};
 use join_report::Stops;
 use join_tree::split_off;
 use pipeline_desc::{Plan, events, rows};
 use pull_nodes::PipeState;
 use pull_stepper::{Held, Stepper, Unmade};
-use row_seat::RowSeat;
+use row_seat::{MarksFront, RowSeat};
 use row_shared::SharesDesk;
 use scope_tree::{Lease, Tree};
 use std::alloc::{AllocError, Global};
@@ -148,11 +148,12 @@ where
 
 impl<
     V: Device + Drop + Send,
-    S: SharesDesk + RowSeat<Pay = Held<V>> + Drop + Send,
+    S: SharesDesk + MarksFront + RowSeat<Pay = Held<V>> + Drop + Send,
     F: PipeState<Tables = Dicts> + Send,
 > Collector<S, V, F>
 where
     S::Desk: Drop + Send,
+    S::Mark: Drop + Send,
 {
     /// Begins the stream that waits, once the outer stream was pulled for the one behind it. Where
     /// it is interrupted by then, or memory is wanting, its lease is cancelled instead.
@@ -176,7 +177,7 @@ where
         requires collecting { (sink : SinkTold) × IsUnderWay (members S.view V.told S.fits F.values (standing F.stands F.comes)) plan.now (between 1 (D.told depot.old) sink desk.old self.old) }
         ensures collecting { (sink : SinkTold) → GoesOn (members S.view V.told S.fits F.values (standing F.stands F.comes)) plan.now (between 1 (D.told depot.old) sink desk.old self.old) (between 1 (D.told depot.new) sink desk.new self.new) }
     {
-        self.pull::<D>(alloc, desk, plan, depot);
+        self.pull::<R, D>(place.rt, alloc, desk, plan, depot);
         if let Some(waiting) = self.waiting.pop_front() {
             self.start_waiting(scope, place, alloc, desk, waiting, plan, depot);
         }
@@ -241,7 +242,11 @@ where
         requires collecting { (path : Option (List ℕ)) × (before : DepotTold) × (sink : SinkTold) × IsUnderWay (members S.view V.told S.fits F.values (standing F.stands F.comes)) plan.now (holding (record { lease = lease; path = path }) (between 2 before sink desk.old self.old)) }
         ensures collecting { (path : Option (List ℕ)) (before now : DepotTold) (sink : SinkTold) (s : StreamSpec) → named_stream plan.now self.old.next path ≡ Some s → MakesUnmade V.told s before now unopened → GoesOn (members S.view V.told S.fits F.values (standing F.stands F.comes)) plan.now (holding (record { lease = lease; path = path }) (between 2 before sink desk.old self.old)) (between 1 now sink desk.new self.new) }
     {
-        self.stops.interrupt(0, Why::Memory);
+        let stop = Stop {
+            why: Why::Memory,
+            at: 0,
+        };
+        self.stops.interrupt(0, stop);
         self.report.miss(self.next);
         self.pass_over(desk, lease);
         self.left.push_reserved(Leftover {

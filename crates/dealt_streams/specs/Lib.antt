@@ -4,3 +4,4 @@ pub mod Standing
 pub mod Works
 pub mod Kept
 pub mod Turns
+pub mod Places

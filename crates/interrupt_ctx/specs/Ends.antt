@@ -4,7 +4,7 @@ use Rattle.atomic_table.specs.Seated.{TableId}
 use Rattle.atomic_table.specs.declared.owned.Table.{Table}
 use Rattle.atomic_table.specs.declared.shared.Seat.{Seat}
 use Rattle.interrupt_ctx.specs.declared.view.View.{View}
-use Rattle.interrupt_ctx.specs.declared.why.Why.{Why}
+use Rattle.interrupt_ctx.specs.declared.why.Stop.{Stop}
 use Rattle.interrupt_ctx.specs.Views.{first_view, with_seen, with_set}
 
 -- which board it is, and how many contexts it has
@@ -22,11 +22,11 @@ abbrev pub first_seat : TableId → SeatSeen
 first_seat id = record { board = id; view = first_view }
 
 -- the seat has set this cause in the context
-abbrev pub HasSet : SeatSeen → SeatSeen → ℕ → Why → Type 0
-HasSet old new context why = new ≡ record old { view = with_set old.view context why }
+abbrev pub HasSet : SeatSeen → SeatSeen → ℕ → Stop → Type 0
+HasSet old new context stop = new ≡ record old { view = with_set old.view context stop }
 
 -- the seat has found this cause in the context, and noted it
-abbrev pub HasFound : SeatSeen → SeatSeen → ℕ → Why → Type 0
+abbrev pub HasFound : SeatSeen → SeatSeen → ℕ → Stop → Type 0
 HasFound old new context there = new ≡ record old { view = with_seen old.view context (Some there) }
 
 -- a board as it lies in its table

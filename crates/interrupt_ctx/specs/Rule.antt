@@ -2,7 +2,7 @@
 use Rattle.std.specs.Prelude.{◌≡◌, ℕ, ◌≤◌, ◌&&◌, not, true, false, if◌then◌else◌, List, length, slice_index}
 use Rattle.chunk_core.specs.Totals.{IsAt, total}
 use Rattle.interrupt_ctx.specs.declared.view.View.{View}
-use Rattle.interrupt_ctx.specs.declared.why.Why.{Why}
+use Rattle.interrupt_ctx.specs.declared.why.Stop.{Stop}
 use Rattle.interrupt_ctx.specs.Codes.{IsWord, code_of}
 use Rattle.interrupt_ctx.specs.Views.{Knows, context_times, blank_view}
 
@@ -23,7 +23,7 @@ pub record WordsAgree (contexts : ℕ) (words : List ℕ) (views : List View) : 
   pub count : length words ≡ contexts
   pub coded : (context : ℕ) → IsWord (slice_index words context)
   pub once : (context : ℕ) → 1 ≤ slice_index words context → total (sets_of context) views ≡ 1
-  pub told : (i : ℕ) (v : View) → IsAt views i v → (context : ℕ) (why : Why) → Knows v context why → slice_index words context ≡ code_of why
+  pub told : (i : ℕ) (v : View) → IsAt views i v → (context : ℕ) (stop : Stop) → Knows v context stop → slice_index words context ≡ code_of stop
 
 -- there is one first seat, which knows how many others are in use; a seat that is no longer in use has nothing
 pub record SeatsAgree (views : List View) : Type 0 where

@@ -5,11 +5,11 @@ use Rattle.chunk_core.specs.Totals.{total}
 use Rattle.interrupt_ctx.specs.declared.view.Interruption.{Interruption}
 use Rattle.interrupt_ctx.specs.declared.view.Look.{Look}
 use Rattle.interrupt_ctx.specs.declared.view.View.{View}
-use Rattle.interrupt_ctx.specs.declared.why.Why.{Why}
+use Rattle.interrupt_ctx.specs.declared.why.Stop.{Stop}
 
 -- a context with the cause of its interruption
-abbrev pub interruption : ℕ → Why → Interruption
-interruption context why = record { context = context; why = why }
+abbrev pub interruption : ℕ → Stop → Interruption
+interruption context stop = record { context = context; stop = stop }
 
 -- before the first look
 abbrev pub no_look : Look
@@ -36,37 +36,37 @@ abbrev pub joined : View → View → View
 joined v w = record v { set = v.set ++ w.set; seen = v.seen ++ w.seen; out = v.out - 1 }
 
 -- one interruption more was set
-abbrev pub with_set : View → ℕ → Why → View
-with_set v context why = record v { set = v.set ++ interruption context why ∷ [] }
+abbrev pub with_set : View → ℕ → Stop → View
+with_set v context stop = record v { set = v.set ++ interruption context stop ∷ [] }
 
 -- what was found in a context is noted, where there is something
-abbrev pub noted : List Interruption → ℕ → Option Why → List Interruption
+abbrev pub noted : List Interruption → ℕ → Option Stop → List Interruption
 noted seen context None = seen
-noted seen context (Some why) = seen ++ interruption context why ∷ []
+noted seen context (Some stop) = seen ++ interruption context stop ∷ []
 
 -- it was seen
-abbrev pub with_seen : View → ℕ → Option Why → View
+abbrev pub with_seen : View → ℕ → Option Stop → View
 with_seen v context found = record v { seen = noted v.seen context found }
 
 -- one look more, at this context, which found so much in its own word and in that of context 0
-abbrev pub after_look : View → ℕ → Option Why → Option Why → View
+abbrev pub after_look : View → ℕ → Option Stop → Option Stop → View
 after_look v context own root = record v { seen = noted (noted v.seen context own) 0 root; looks = v.looks + 1; last = record { context = context; own = own; root = root } }
 
 -- the seat has set or seen that the context was interrupted for this cause
-abbrev pub Knows : View → ℕ → Why → Type 0
-Knows v context why = IsAmong (interruption context why) v.set ⊎ IsAmong (interruption context why) v.seen
+abbrev pub Knows : View → ℕ → Stop → Type 0
+Knows v context stop = IsAmong (interruption context stop) v.set ⊎ IsAmong (interruption context stop) v.seen
 
 -- what the seat knows of the context is what was found there
-abbrev pub FindsKnown : View → ℕ → Option Why → Type 0
-FindsKnown v context found = (why : Why) → Knows v context why → found ≡ Some why
+abbrev pub FindsKnown : View → ℕ → Option Stop → Type 0
+FindsKnown v context found = (stop : Stop) → Knows v context stop → found ≡ Some stop
 
 -- if this is the first seat and no other is out, what was found in the context is what it has set or taken in as set
-abbrev pub IsOwn : View → ℕ → Option Why → Type 0
-IsOwn v context found = v.first ≡ true → v.out ≡ 0 → (why : Why) → found ≡ Some why → IsAmong (interruption context why) v.set
+abbrev pub IsOwn : View → ℕ → Option Stop → Type 0
+IsOwn v context found = v.first ≡ true → v.out ≡ 0 → (stop : Stop) → found ≡ Some stop → IsAmong (interruption context stop) v.set
 
 -- all that the seat knows of it has set or taken in as set
 abbrev pub HasSetAll : View → Type 0
-HasSetAll v = (context : ℕ) (why : Why) → Knows v context why → IsAmong (interruption context why) v.set
+HasSetAll v = (context : ℕ) (stop : Stop) → Knows v context stop → IsAmong (interruption context stop) v.set
 
 -- how often the context stands in the list
 abbrev pub context_times : ℕ → List Interruption → ℕ
@@ -74,5 +74,5 @@ context_times context xs = total (λ (x : Interruption). if x.context == context
 
 -- a context is interrupted for one cause, and was set once
 pub record IsOfOneBoard (v : View) : Type 0 where
-  pub one_cause : (context : ℕ) (why other : Why) → Knows v context why → Knows v context other → why ≡ other
+  pub one_cause : (context : ℕ) (stop other : Stop) → Knows v context stop → Knows v context other → stop ≡ other
   pub set_once : (context : ℕ) → context_times context v.set ≤ 1

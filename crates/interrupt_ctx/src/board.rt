@@ -1,5 +1,5 @@
 //! The board, and the seats at it.
-ghost use Rattle.std.specs.Prelude.{◌≡◌, ◌⊎◌, ◌<◌, ◌≤◌, true, false, IfOk, IsSome, Some};
+ghost use Rattle.std.specs.Prelude.{◌≡◌, ◌⊎◌, ◌<◌, ◌≤◌, ◌^◌, true, false, IfOk, IsSome, Some};
 ghost use Rattle.std.specs.Bool.{OnTrue, OnFalse};
 ghost use Rattle.std.specs.Option.{option_or};
 ghost use Rattle.interrupt_ctx.specs.Views.{FindsKnown, HasSetAll, IsOfOneBoard, IsOwn, Knows, after_look, giving, joined, split_off};
@@ -7,7 +7,7 @@ ghost use Rattle.interrupt_ctx.specs.Ends.{HasFound, HasSet, first_seat};
 
 use crate::rule::{Contexts, Learns, LooksAtOwn, LooksAtRoot, Parts, Sets};
 use crate::view::View;
-use crate::why::{Why, why_of};
+use crate::why::{Stop, stop_of};
 use atomic_table::{Seat, Table};
 use std::alloc::{AllocError, Global};
 use std::marker::Model;
@@ -61,23 +61,24 @@ impl Board {
 impl BoardSeat {
     /// Interrupts a context, unless that was done before. True exactly where this call found no code
     /// there; the context has this one then, for good.
-    pub fn set(&mut self, board: &Board, context: u32, why: Why) -> bool
+    pub fn set(&mut self, board: &Board, context: u32, stop: Stop) -> bool
         requires fits { self.old.board ≡ board.now.id }
         requires context { context < board.now.contexts }
-        ensures set { OnTrue result (HasSet self.old self.new context why) }
-        ensures stood { OnFalse result ((there : Why) × HasFound self.old self.new context there × IsOwn self.old.view context (Some there)) }
-        ensures known { (there : Why) → Knows self.old.view context there → (result ≡ false) × HasFound self.old self.new context there }
+        requires at { stop.at < 2 ^ 60 }
+        ensures set { OnTrue result (HasSet self.old self.new context stop) }
+        ensures stood { OnFalse result ((there : Stop) × HasFound self.old self.new context there × IsOwn self.old.view context (Some there)) }
+        ensures known { (there : Stop) → Knows self.old.view context there → (result ≡ false) × HasFound self.old self.new context there }
     {
         let word = board
             .table
             .shared
-            .compare_exchange::<Sets>(&mut self.seat, context as usize, 0, why.code());
-        why_of(word).is_none()
+            .compare_exchange::<Sets>(&mut self.seat, context as usize, 0, stop.code());
+        stop_of(word).is_none()
     }
 
     /// Why a context is to stop: its own code, or where it has none that of the whole run. None only
     /// where this call found neither.
-    pub fn look(&mut self, board: &Board, context: u32) -> Option<Why>
+    pub fn look(&mut self, board: &Board, context: u32) -> Option<Stop>
         requires fits { self.old.board ≡ board.now.id }
         requires context { context < board.now.contexts }
         ensures look { self.new ≡ record self.old { view = after_look self.old.view context self.new.view.last.own self.new.view.last.root } }
@@ -86,18 +87,18 @@ impl BoardSeat {
         // What this seat knows of the two contexts is what it found.
         ensures own { FindsKnown self.old.view context self.new.view.last.own }
         ensures root { FindsKnown self.old.view 0 self.new.view.last.root }
-        ensures kept { (why : Why) → Knows self.old.view context why ⊎ Knows self.old.view 0 why → IsSome result }
+        ensures kept { (stop : Stop) → Knows self.old.view context stop ⊎ Knows self.old.view 0 stop → IsSome result }
 
         // While no other seat is out, the first one finds only what it has set.
         ensures alone { IsOwn self.old.view context self.new.view.last.own × IsOwn self.old.view 0 self.new.view.last.root }
     {
-        let own = why_of(
+        let own = stop_of(
             board
                 .table
                 .shared
                 .load::<LooksAtOwn>(&mut self.seat, context as usize),
         );
-        let root = why_of(board.table.shared.load::<LooksAtRoot>(&mut self.seat, 0));
+        let root = stop_of(board.table.shared.load::<LooksAtRoot>(&mut self.seat, 0));
         own.or(root)
     }
 

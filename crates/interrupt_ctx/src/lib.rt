@@ -45,4 +45,4 @@ pub mod why;
 pub use board::{Board, BoardSeat};
 pub use handle::BoardRef;
 pub use view::{Interruption, Look, View};
-pub use why::Why;
+pub use why::{Stop, Why};

@@ -1,18 +1,18 @@
 //! What a seat knows. No value of these types is made: contracts see a seat as one.
-use crate::why::Why;
+use crate::why::Stop;
 use std::collections::LinkedList;
 
-/// A context, and why it was interrupted.
+/// A context, and why it was interrupted, and behind what.
 pub struct Interruption {
     pub context: u32,
-    pub why: Why,
+    pub stop: Stop,
 }
 
 /// Which context was looked at, and what its word and that of context 0 told.
 pub struct Look {
     pub context: u32,
-    pub own: Option<Why>,
-    pub root: Option<Why>,
+    pub own: Option<Stop>,
+    pub root: Option<Stop>,
 }
 
 pub struct View {

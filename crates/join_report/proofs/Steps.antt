@@ -7,10 +7,12 @@ use Rattle.chunk_core.proofs.Bools.{or_right}
 use Rattle.chunk_core.specs.declared.code.How.{How}
 use Rattle.chunk_core.specs.declared.code.How.TheVariants as how
 use Rattle.interrupt_ctx.specs.declared.view.Interruption.{Interruption}
+use Rattle.interrupt_ctx.specs.declared.why.Stop.{Stop}
+use Rattle.res_ledger.specs.declared.event.StreamNo.{StreamNo}
 use Rattle.run_rules.specs.Facts.{at, is_memory}
 use Rattle.join_tale.specs.Ended.{Ended}
 use Rattle.join_tale.specs.Ended.Ended.{skipped, unmade as unmade_end}
-use Rattle.join_tale.specs.Steps.{ended, ended_late, fated, learned, outer_ended, unmade}
+use Rattle.join_tale.specs.Steps.{ended, ended_late, fated, heeded, learned, outer_ended, unmade}
 use Rattle.join_tale.specs.Tales.{Fate, HasCome, IsBegun, IsOpen, Message, Tale, end_of, frames_of, load_of}
 use Rattle.join_tale.specs.Tales.Fate.{Begun, Skipped, Unmade}
 use Rattle.join_tale.proofs.Parts.{end_before_end, frames_end}
@@ -87,6 +89,20 @@ module _ (most : Option ℕ) (n : ℕ) (t : Tale) (r : Report) (i : IsReport mos
     hows = i.hows;
     unwritten = i.unwritten;
     accounts = accounts_on n t (learned t vs cs) r.streams 0 i.accounts (λ j. agrees_same t (learned t vs cs) j refl refl refl);
+  }
+
+  -- streams were halted
+  pub heeds : (os : List (StreamNo × Stop)) → IsReport most n (heeded t os) r
+  heeds os = record {
+    wanted = i.wanted;
+    ceased = i.ceased;
+    sink_failed = i.sink_failed;
+    memory = i.memory;
+    quiet = λ c. record { wanted = (i.quiet c).wanted; late = (i.quiet c).late; memory = (i.quiet c).memory };
+    ours = i.ours;
+    hows = i.hows;
+    unwritten = i.unwritten;
+    accounts = accounts_on n t (heeded t os) r.streams 0 i.accounts (λ j. agrees_same t (heeded t os) j refl refl refl);
   }
 
   -- whose turn it was changes nothing

@@ -1,10 +1,12 @@
 -- What follows of a report and of what was learned.
 use Rattle.std.specs.Prelude.{◌≡◌, ℕ, ◌<◌, List, length, Option}
 use Rattle.interrupt_ctx.specs.declared.view.Interruption.{Interruption}
+use Rattle.interrupt_ctx.specs.declared.why.Stop.{Stop}
+use Rattle.res_ledger.specs.declared.event.StreamNo.{StreamNo}
 use Rattle.run_rules.specs.Work.{Stream, names_from}
 use Rattle.join_tale.specs.Ended.{Ended}
 use Rattle.join_tale.specs.Records.{IsSettled}
-use Rattle.join_tale.specs.Steps.{fated, learned}
+use Rattle.join_tale.specs.Steps.{fated, heeded, learned}
 use Rattle.join_tale.specs.Tales.{HasCome, IsBegun, IsKnown, Tale}
 use Rattle.join_tale.specs.Tales.Fate.{Begun, Skipped}
 use Rattle.join_report.specs.Accounts.{names_below}
@@ -13,11 +15,12 @@ use Rattle.join_report.specs.Stopping.{IsSeated, IsUnknown, Learns, TellsKnown, 
 use Rattle.join_report.specs.declared.report.Report.{Report}
 use Rattle.join_report.specs.declared.stops.Stops.{Stops}
 
--- a report stays one where a stream begins or is skipped, where contexts are set or found set, and whoever's turn it was
+-- a report stays one where a stream begins or is skipped, where contexts are set or found set, whoever was halted by that, and whoever's turn it was
 pub record ReportStays (most : Option ℕ) (n : ℕ) (t : Tale) (r : Report) : Type 0 where
   pub begins : IsReport most n (fated t Begun) r
   pub skips : IsReport most n (fated t Skipped) r
   pub learns : (vs cs : List Interruption) → IsReport most n (learned t vs cs) r
+  pub heeds : (os : List (StreamNo × Stop)) → IsReport most n (heeded t os) r
   pub turns : (pulled : List ℕ) (room : ℕ → List ℕ) → IsReport most n (record t { pulled = pulled; room = room }) r
 
 abbrev pub ReportsStay : Type 0

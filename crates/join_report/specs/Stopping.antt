@@ -1,11 +1,11 @@
 -- How a run is stopped.
-use Rattle.std.specs.Prelude.{◌≡◌, ◌⊎◌, ℕ, Bool, true, false, List, [], ◌++◌}
+use Rattle.std.specs.Prelude.{◌≡◌, ◌⊎◌, ℕ, Bool, true, false, List, [], ◌++◌, Option, Some, None}
 use Rattle.chunk_core.specs.Lists.{IsAmong}
 use Rattle.interrupt_ctx.specs.Ends.{SeatSeen}
 use Rattle.interrupt_ctx.specs.Views.{HasSetAll, Knows, giving, interruption, joined}
 use Rattle.interrupt_ctx.specs.declared.view.Interruption.{Interruption}
 use Rattle.interrupt_ctx.specs.declared.view.View.{View}
-use Rattle.interrupt_ctx.specs.declared.why.Why.{Why}
+use Rattle.interrupt_ctx.specs.declared.why.Stop.{Stop}
 use Rattle.join_tale.specs.Steps.{Marks}
 use Rattle.join_tale.specs.Tales.{Tale}
 use Rattle.join_report.specs.declared.stops.Stops.{Stops}
@@ -36,17 +36,22 @@ pub record Learns (old new : Stops) (vs cs : List Interruption) : Type 0 where
   pub seen : (view_of new).seen ≡ (view_of old).seen ++ cs
   pub out : (view_of new).out ≡ (view_of old).out
 
--- the context was interrupted for the cause, or found so
-abbrev pub Interrupts : Stops → Stops → ℕ → Why → Type 0
+-- the context was interrupted so, or found interrupted
+abbrev pub Interrupts : Stops → Stops → ℕ → Stop → Type 0
 Interrupts old new context w = (vs : List Interruption) × (cs : List Interruption) × Marks context w vs cs × Learns old new vs cs
 
 -- a code of the context is among these, or one of the whole run
 abbrev pub Reaches : ℕ → List Interruption → Type 0
-Reaches context cs = ((w : Why) × IsAmong (interruption context w) cs) ⊎ ((w : Why) × IsAmong (interruption 0 w) cs)
+Reaches context cs = ((w : Stop) × IsAmong (interruption context w) cs) ⊎ ((w : Stop) × IsAmong (interruption 0 w) cs)
 
 -- the seat knows of no code in the context
 abbrev pub IsUnknown : View → ℕ → Type 0
-IsUnknown v context = (w : Why) → ¬ (Knows v context w)
+IsUnknown v context = (w : Stop) → ¬ (Knows v context w)
+
+-- a look found this, which reaches the context, or nothing was known and nothing found
+abbrev pub Finds : Stops → Stops → ℕ → Option Stop → Type 0
+Finds old new context (Some w) = (cs : List Interruption) × Learns old new [] cs × (IsAmong (interruption context w) cs ⊎ IsAmong (interruption 0 w) cs)
+Finds old new context None = Learns old new [] [] × IsUnknown (view_of old) 0 × IsUnknown (view_of old) context
 
 -- a look found a code that reaches the context, or none was known and none found
 abbrev pub Looks : Stops → Stops → ℕ → Bool → Type 0

@@ -6,7 +6,8 @@
 //! memory to make one, and how the outer stream ended. `into_ends` lists the ends of the streams that
 //! there were, and takes no memory: all room is made by `Report::new`, for as many as there may be.
 //!
-//! `Stops` is the board of interruption with the collector's own seat at it: what the collector set
+//! `Stops` is the board of interruption with the collector's own seat at it, where each interruption
+//! names how far the ledger was, as who makes it says (`Stop`): what the collector set
 //! and found stands in its view, and once all other seats are taken in, all of that was set.
 //!
 //! Contracts say what a report tells of a tale (`IsReport`), and that each call is a step of one.

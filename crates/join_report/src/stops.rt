@@ -2,9 +2,9 @@
 ghost use Rattle.std.specs.Prelude.{◌≡◌, ◌+◌, ◌-◌, ◌^◌, ◌<◌, IfOk};
 ghost use Rattle.interrupt_ctx.specs.Ends.{first_seat};
 ghost use Rattle.interrupt_ctx.specs.Views.{split_off};
-ghost use Rattle.join_report.specs.Stopping.{Interrupts, IsSeated, Looks, view_of, with_seat_in, with_seat_out};
+ghost use Rattle.join_report.specs.Stopping.{Finds, Interrupts, IsSeated, Looks, view_of, with_seat_in, with_seat_out};
 
-use interrupt_ctx::{Board, BoardRef, BoardSeat, Why};
+use interrupt_ctx::{Board, BoardRef, BoardSeat, Stop};
 use std::alloc::{AllocError, Global};
 
 /// The board, and the first seat at it.
@@ -42,14 +42,26 @@ impl Stops {
     }
 
     /// Interrupts a context, unless that was done before.
-    pub fn interrupt(&mut self, context: u32, why: Why)
+    pub fn interrupt(&mut self, context: u32, stop: Stop)
         requires seated { IsSeated self.old }
         requires context { context < self.old.board.contexts }
-        ensures marks { Interrupts self.old self.new context why }
+        requires at { stop.at < 2 ^ 60 }
+        ensures marks { Interrupts self.old self.new context stop }
         ensures board { self.new.board ≡ self.old.board }
         ensures seated { IsSeated self.new }
     {
-        self.seat.set(self.board.get(), context, why);
+        self.seat.set(self.board.get(), context, stop);
+    }
+
+    /// Why a context is interrupted, by its own code or by that of the whole run.
+    pub fn look(&mut self, context: u32) -> Option<Stop>
+        requires seated { IsSeated self.old }
+        requires context { context < self.old.board.contexts }
+        ensures finds { Finds self.old self.new context result }
+        ensures board { self.new.board ≡ self.old.board }
+        ensures seated { IsSeated self.new }
+    {
+        self.seat.look(self.board.get(), context)
     }
 
     /// Whether a context is interrupted, by its own code or by that of the whole run.
@@ -60,7 +72,7 @@ impl Stops {
         ensures board { self.new.board ≡ self.old.board }
         ensures seated { IsSeated self.new }
     {
-        self.seat.look(self.board.get(), context).is_some()
+        self.look(context).is_some()
     }
 
     /// A seat for a stream, which has seen what this one knows.

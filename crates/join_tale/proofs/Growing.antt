@@ -1,5 +1,5 @@
 -- What stays known while a tale goes on.
-use Rattle.std.proofs.Common.{◌≡◌, ◌⊎◌, ℕ, suc, ◌≤◌, true, List, [], ◌++◌, length, Some, is_some, inl, inr, sym, ◌∙◌, ap, subst, ⊎_elim, arith, append-nil}
+use Rattle.std.proofs.Common.{◌≡◌, ◌⊎◌, ℕ, suc, ◌≤◌, true, List, [], ◌++◌, length, Some, is_some, inl, inr, refl, sym, ◌∙◌, ap, subst, ⊎_elim, arith, append-nil}
 use Rattle.chunk_core.specs.Lists.{IsAmong}
 use Rattle.chunk_core.specs.Texts.{Frame}
 use Rattle.chunk_core.proofs.Filters.{among_append}
@@ -9,11 +9,14 @@ use Rattle.chunk_core.specs.declared.code.How.{How}
 use Rattle.chunk_core.specs.declared.code.How.TheVariants as how
 use Rattle.interrupt_ctx.specs.Views.{interruption}
 use Rattle.interrupt_ctx.specs.declared.view.Interruption.{Interruption}
+use Rattle.interrupt_ctx.specs.declared.why.Stop.{Stop}
 use Rattle.interrupt_ctx.specs.declared.why.Why.{Why}
 use Rattle.interrupt_ctx.specs.declared.why.Why.TheVariants as why
+use Rattle.res_ledger.specs.declared.event.StreamNo.{StreamNo}
+use Rattle.res_ledger.specs.declared.event.StreamNo.TheVariants.{Outer, Inner}
 use Rattle.run_rules.specs.Facts.{at}
 use Rattle.join_tale.specs.Bounds.{Bounds, is_in_turn}
-use Rattle.join_tale.specs.Keeping.{HadTurn, HasLacked, IsEndedInTurn, IsLast, IsLastTurn, IsOuterStopped, IsOwnCode, IsPassedOver, IsToldToHalt, KeepsEnds, KeepsFates, LacksForLoad}
+use Rattle.join_tale.specs.Keeping.{HadTurn, HasLacked, IsEndedInTurn, IsLast, IsLastTurn, IsOuterStopped, IsOuterTold, IsOwnCode, IsPassedOver, IsToldBy, IsToldToHalt, KeepsEnds, KeepsFates, LacksForLoad}
 use Rattle.join_tale.specs.Steps.{Marks, learned}
 use Rattle.join_tale.specs.Steps.Marks.{fresh, stale}
 use Rattle.join_tale.specs.Tales.{AreCaused, Came, Fate, HasCome, HasMet, IsBegun, IsCaused, IsFoundSet, IsKnown, Message, Tale, end_of, frames_of}
@@ -26,13 +29,17 @@ pub known_more : (t : Tale) (vs cs : List Interruption) (c : ℕ) → IsKnown t 
 known_more t vs cs c k = ⊎_elim (λ s. inl (s.0, among_left vs s.1)) (λ f. inr (found_more t vs cs c f)) k
 
 -- what is marked is known, and set for its cause
-pub marked_known : (t : Tale) (c : ℕ) (w : Why) (vs cs : List Interruption) → Marks c w vs cs → IsKnown (learned t vs cs) c
+pub marked_known : (t : Tale) (c : ℕ) (w : Stop) (vs cs : List Interruption) → Marks c w vs cs → IsKnown (learned t vs cs) c
 marked_known t c w vs cs fresh = inl (w, among_last t.set (interruption c w))
 marked_known t c w vs cs (stale there) = inr (there, among_last t.seen (interruption c there))
 
-pub marked_caused : (bounds : Bounds) (u : Tale) (c : ℕ) (w : Why) (vs cs : List Interruption) → Marks c w vs cs → IsCaused bounds u c w → AreCaused bounds u vs
-marked_caused bounds u c w vs cs fresh is d v m = ⊎_elim (λ e. subst (λ (z : Interruption). IsCaused bounds u z.context z.why) (sym e) is) (λ n. absurd (among_nil n)) (among_cons m)
+pub marked_caused : (bounds : Bounds) (u : Tale) (c : ℕ) (w : Stop) (vs cs : List Interruption) → Marks c w vs cs → IsCaused bounds u c w.why → AreCaused bounds u vs
+marked_caused bounds u c w vs cs fresh is d v m = ⊎_elim (λ e. subst (λ (z : Interruption). IsCaused bounds u z.context z.stop.why) (sym e) is) (λ n. absurd (among_nil n)) (among_cons m)
 marked_caused bounds u c w vs cs (stale there) is d v m = absurd (among_nil m)
+
+-- a cause by its name
+pub why_caused : (bounds : Bounds) (t : Tale) (c : ℕ) (w : Stop) (v : Why) → w.why ≡ v → IsCaused bounds t c v → IsCaused bounds t c w.why
+why_caused bounds t c w v is h = subst (λ z. IsCaused bounds t c z) (sym is) h
 
 -- a code in the context of k is set for the end that stops k
 pub until_came : (bounds : Bounds) (t : Tale) (k : ℕ) (w : Why) → IsCaused bounds t (suc k) w → (j : ℕ) × (bounds.until k ≡ Some j) × HasCome t j
@@ -42,15 +49,24 @@ until_came bounds t k why.Sink h = absurd (let q : suc k ≡ 0 = h.0 in omega (q
 until_came bounds t k why.Memory h = absurd (let q : suc k ≡ 0 = h.0 in omega (q, arith))
 until_came bounds t k why.Fault h = absurd (let q : suc k ≡ 0 = h.0 in omega (q, arith))
 
+-- and why
+pub until_why : (bounds : Bounds) (t : Tale) (k : ℕ) (w : Why) → IsCaused bounds t (suc k) w → w ≡ why.Until
+until_why bounds t k why.Take h = absurd (let q : suc k ≡ 0 = h.0 in omega (q, arith))
+until_why bounds t k why.Until h = refl
+until_why bounds t k why.Sink h = absurd (let q : suc k ≡ 0 = h.0 in omega (q, arith))
+until_why bounds t k why.Memory h = absurd (let q : suc k ≡ 0 = h.0 in omega (q, arith))
+until_why bounds t k why.Fault h = absurd (let q : suc k ≡ 0 = h.0 in omega (q, arith))
+
 -- where none that has come is above k, its own code tells it to halt, the end having come whose end stops it
 pub own_told : (bounds : Bounds) (t : Tale) (k : ℕ) → AreCaused bounds t t.set → (is_in_turn bounds ≡ true → (j : ℕ) → HasCome t j → j ≤ k) → IsOwnCode bounds t k → IsFoundSet t (suc k) × IsEndedInTurn bounds t k
-own_told bounds t k caused below own = (own.0, λ w. let s = own.1 w in let u = until_came bounds t k s.0 (caused (suc k) s.0 s.1) in (u.0, u.1, u.2, below w u.0 u.2))
+own_told bounds t k caused below own = (own.0, λ w. let s = own.1 w in let u = until_came bounds t k s.0.why (caused (suc k) s.0 s.1) in (u.0, u.1, u.2, below w u.0 u.2))
 
 -- nothing is begun nor pulled, and what came and what is known stay
 pub record Grows (t u : Tale) : Type 0 where
   pub begun : (k : ℕ) → IsBegun u k → IsBegun t k
   pub came : (k : ℕ) (h : How) → Came t k h → Came u k h
-  pub found : (c : ℕ) → IsFoundSet t c → IsFoundSet u c
+  pub seen : (x : Interruption) → IsAmong x t.seen → IsAmong x u.seen
+  pub obeyed : (k : StreamNo) (w : Stop) → IsAmong (k, w) t.obeyed → IsAmong (k, w) u.obeyed
   pub known : (c : ℕ) → IsKnown t c → IsKnown u c
   pub memory : t.memory ≡ true → u.memory ≡ true
   pub pulled : (k : ℕ) → IsAmong k u.pulled → IsAmong k t.pulled
@@ -97,11 +113,23 @@ module _ (bounds : Bounds) (t u : Tale) (g : Grows t u) where
   pub last_grows : (k : ℕ) → IsLast bounds t k → IsLast bounds u k
   last_grows k l w j b = l w j (g.begun j b)
 
+  pub found_grows : (c : ℕ) → IsFoundSet t c → IsFoundSet u c
+  found_grows c f = (f.0, g.seen (interruption c f.0) f.1)
+
+  ended_grows : (k : ℕ) → IsEndedInTurn bounds t k → IsEndedInTurn bounds u k
+  ended_grows k h w = let e = h w in (e.0, e.1, (e.2.0, g.came e.0 e.2.0 e.2.1), e.3)
+
   pub own_grows : (k : ℕ) → IsFoundSet t (suc k) × IsEndedInTurn bounds t k → IsFoundSet u (suc k) × IsEndedInTurn bounds u k
-  own_grows k f = (g.found (suc k) f.0, λ w. let e = f.1 w in (e.0, e.1, (e.2.0, g.came e.0 e.2.0 e.2.1), e.3))
+  own_grows k f = (found_grows (suc k) f.0, ended_grows k f.1)
+
+  told_by_grows : (k : ℕ) (w : Stop) → IsToldBy bounds t k w → IsToldBy bounds u k w
+  told_by_grows k w h = ⊎_elim (λ f. inl (g.seen (interruption (suc k) w) f.0, ended_grows k f.1)) (λ f. inr (g.seen (interruption 0 w) f.0, last_grows k f.1)) h
 
   pub told_grows : (k : ℕ) → IsToldToHalt bounds t k → IsToldToHalt bounds u k
-  told_grows k h = ⊎_elim (λ f. inl (own_grows k f)) (λ f. inr (g.found 0 f.0, last_grows k f.1)) h
+  told_grows k h = (h.0, g.obeyed (Inner k) h.0 h.1, told_by_grows k h.0 h.2)
+
+  pub outer_told_grows : IsOuterTold t → IsOuterTold u
+  outer_told_grows h = (h.0, g.obeyed Outer h.0 h.1, g.seen (interruption 0 h.0) h.2)
 
   pub turn_grows : (k : ℕ) → HadTurn u k → HadTurn t k
   turn_grows k h = ⊎_elim (λ b. inl (g.begun k b)) (λ m. inr (g.pulled k m)) h
@@ -110,7 +138,7 @@ module _ (bounds : Bounds) (t u : Tale) (g : Grows t u) where
   last_turn_grows k l j h = l j (turn_grows j h)
 
   passed_grows : (IsOuterStopped t → IsOuterStopped u) → (k : ℕ) → IsPassedOver bounds t k → IsPassedOver bounds u k
-  passed_grows outer k h = ⊎_elim (λ f. inl (own_grows k f)) (λ f. inr (⊎_elim (λ a. inl (g.found 0 a)) (λ s. inr (outer s)) f.0, last_turn_grows k f.1)) h
+  passed_grows outer k h = ⊎_elim (λ f. inl (own_grows k f)) (λ f. inr (⊎_elim (λ a. inl (found_grows 0 a)) (λ s. inr (outer s)) f.0, last_turn_grows k f.1)) h
 
   -- the ends, where these came anew
   pub ends_kept : (N : ℕ → How → Type 0) → AreFresh bounds t u N → KeepsEnds bounds t → ((k : ℕ) (h : How) → IsAmong (end_of k h) u.front → IsAmong (end_of k h) t.front ⊎ N k h) → ((k : ℕ) (h : How) → IsAmong (end_of k h) u.late → IsAmong (end_of k h) t.late ⊎ N k h)
@@ -136,7 +164,7 @@ module _ (bounds : Bounds) (t u : Tale) (g : Grows t u) where
 
   -- what became of the streams, where these weren't begun anew, and of the outer one
   pub fates_kept : KeepsFates bounds t → ((k : ℕ) → at u.fates k ≡ Some Skipped → (at t.fates k ≡ Some Skipped) ⊎ IsPassedOver bounds u k) → ((k : ℕ) → at u.fates k ≡ Some Unmade → (at t.fates k ≡ Some Unmade) ⊎ ((u.memory ≡ true) × IsLastTurn u k)) → (IsOuterStopped t → IsOuterStopped u)
-      → (u.outer ≡ Some how.Halted → IsFoundSet u 0) → ((c : Code) → u.outer ≡ Some (how.Fault c) → IsKnown u 0) → (u.outer ≡ Some how.Memory → u.memory ≡ true) → KeepsFates bounds u
+      → (u.outer ≡ Some how.Halted → IsOuterTold u) → ((c : Code) → u.outer ≡ Some (how.Fault c) → IsKnown u 0) → (u.outer ≡ Some how.Memory → u.memory ≡ true) → KeepsFates bounds u
   fates_kept i skipped unmade outer halted fault memory = record {
     skipped = λ k e. ⊎_elim (λ o. passed_grows outer k (i.skipped k o)) (λ n. n) (skipped k e);
     unmade = λ k e. ⊎_elim (λ o. let q = i.unmade k o in (g.memory q.0, last_turn_grows k q.1)) (λ n. n) (unmade k e);
@@ -152,7 +180,7 @@ module _ (bounds : Bounds) (t u : Tale) (g : Grows t u) where
       (λ k e. inl (sym (ap (λ (l : List Fate). at l k) same) ∙ e))
       (λ k e. inl (sym (ap (λ (l : List Fate). at l k) same) ∙ e))
       (λ s. (s.0, outer ∙ s.1, s.2))
-      (λ e. g.found 0 (i.outer_halted (sym outer ∙ e)))
+      (λ e. outer_told_grows (i.outer_halted (sym outer ∙ e)))
       (λ c e. g.known 0 (i.outer_fault c (sym outer ∙ e)))
       (λ e. g.memory (i.outer_memory (sym outer ∙ e)))
 
@@ -172,4 +200,4 @@ module _ (bounds : Bounds) (t u : Tale) (g : Grows t u) where
   cause_grows met cut outer c why.Fault i = (i.0, ⊎_elim (λ x. inl (x.0, x.1, g.came x.0 (how.Fault x.1) x.2)) (λ x. inr (x.0, outer x.0 x.1)) i.1)
 
   pub caused_more : (vs : List Interruption) → (HasMet bounds t → HasMet bounds u) → (is_some t.cut ≡ true → is_some u.cut ≡ true) → ((c : Code) → t.outer ≡ Some (how.Fault c) → u.outer ≡ Some (how.Fault c)) → AreCaused bounds t t.set → AreCaused bounds u vs → AreCaused bounds u (t.set ++ vs)
-  caused_more vs met cut outer old new c w m = ⊎_elim (λ o. cause_grows met cut outer c w (old c w o)) (λ n. new c w n) (among_append (interruption c w) t.set vs m)
+  caused_more vs met cut outer old new c w m = ⊎_elim (λ o. cause_grows met cut outer c w.why (old c w o)) (λ n. new c w n) (among_append (interruption c w) t.set vs m)

@@ -6,6 +6,7 @@ pub mod Room
 pub mod Framing
 pub mod Steps
 pub mod Turns
+pub mod Heeding
 pub mod Receiving
 pub mod Ending
 pub mod Endings

@@ -251,7 +251,7 @@ module _ (bounds : Bounds) (t : Tale) (i : IsTale bounds t) where
         (λ x. ⊎_elim
         (λ m. unknown (i.stop (memory_ceased bounds t i (i.ends.memory j m).0)))
         (λ y. ⊎_elim
-        (λ s. ⊎_elim (λ f. s.1 f) (λ f. unknown (inr f.0)) (i.ends.halted j s.0))
+        (λ s. let q = i.ends.halted j s.0 in ⊎_elim (λ f. s.1 ((q.0, f.0), f.1)) (λ f. unknown (inr (q.0, f.0))) q.2)
         (λ z. ⊎_elim (λ m. unknown (i.stop (late_ceased bounds t i (end_of j m.0) m.1))) (λ e. unknown (i.stop (memory_ceased bounds t i (i.fates.unmade j e).0))) z)
         y)
         x)

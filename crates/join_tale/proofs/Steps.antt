@@ -1,10 +1,11 @@
 -- How a tale begins, and what keeps it but messages.
 use Rattle.std.proofs.Common.{◌≡◌, ◌≢◌, ◌⊎◌, ℕ, suc, ◌≤◌, Bool, true, false, ◌||◌, List, [], ◌∷◌, ◌++◌, length, Option, Some, None, IfSome, inl, inr, refl, sym, ap, ◌∙◌, subst, ⊎_elim, arith, length-append}
 use Rattle.chunk_core.proofs.Bools.{either, or_left, or_right}
-use Rattle.chunk_core.proofs.Members.{among_nil}
+use Rattle.chunk_core.proofs.Members.{among_left, among_nil}
 use Rattle.chunk_core.specs.declared.code.How.{How}
 use Rattle.chunk_core.specs.declared.code.How.TheVariants as how
 use Rattle.interrupt_ctx.specs.declared.view.Interruption.{Interruption}
+use Rattle.interrupt_ctx.specs.declared.why.Stop.{Stop}
 use Rattle.interrupt_ctx.specs.declared.why.Why.{Why}
 use Rattle.interrupt_ctx.specs.declared.why.Why.TheVariants as why
 use Rattle.run_rules.specs.Facts.{is_memory}
@@ -15,7 +16,7 @@ use Rattle.join_tale.specs.Tales.{AreCaused, Fate, HasCome, IsBegun, IsCaused, I
 use Rattle.join_tale.specs.Tales.Fate.{Begun, Skipped, Unmade}
 use Rattle.join_tale.proofs.Ceasing.{cut_ceased, late_ceased, memory_ceased}
 use Rattle.join_tale.proofs.Framing.{frames_stay}
-use Rattle.join_tale.proofs.Growing.{Grows, NoEnd, cause_grows, caused_more, ends_kept, fates_kept, fates_stay, found_more, known_more, lacked_grows, lacks_still, marked_caused, marked_known, none_fresh, own_grows, own_told}
+use Rattle.join_tale.proofs.Growing.{Grows, NoEnd, cause_grows, caused_more, ends_kept, fates_kept, fates_stay, known_more, lacked_grows, lacks_still, marked_caused, marked_known, none_fresh, outer_told_grows, own_grows, own_told, why_caused}
 use Rattle.join_tale.proofs.Room.{begun_room, room_passes, stays, turn_next}
 use Rattle.join_tale.proofs.Places.{at_below, at_last, at_left, at_snoc, none_some, not_both, or_false, some_is}
 
@@ -85,15 +86,15 @@ starts bounds doesnt = record {
   stop = λ e. absurd (not_both false refl e);
 }
 
-pub starts_met : (bounds : Bounds) (vs cs : List Interruption) → Marks 0 why.Take vs cs → bounds.most ≡ Some 0 → IsTale bounds (record (learned first_tale vs cs) { ceased = true })
-starts_met bounds vs cs mark does =
-    let known : IsKnown (learned first_tale vs cs) 0 = marked_known first_tale 0 why.Take vs cs mark in
+pub starts_met : (bounds : Bounds) {w : Stop} (vs cs : List Interruption) → w.why ≡ why.Take → Marks 0 w vs cs → bounds.most ≡ Some 0 → IsTale bounds (record (learned first_tale vs cs) { ceased = true })
+starts_met bounds {w = w} vs cs is mark does =
+    let known : IsKnown (learned first_tale vs cs) 0 = marked_known first_tale 0 w vs cs mark in
     record {
       frames = first_frames bounds vs cs true (λ e. does) (λ e. refl);
       ends = first_ends bounds vs cs true;
       fates = first_fates bounds vs cs true (λ m. known);
       room = first_room bounds vs cs true;
-      caused = marked_caused bounds (record (learned first_tale vs cs) { ceased = true }) 0 why.Take vs cs mark (refl, does);
+      caused = (let u : Tale = record (learned first_tale vs cs) { ceased = true } in marked_caused bounds u 0 w vs cs mark (why_caused bounds u 0 w why.Take is (refl, does)));
       lacked = λ m. absurd (not_both false refl m);
       stop = λ e. known;
     }
@@ -102,7 +103,7 @@ starts_met bounds vs cs mark does =
 
 module _ (bounds : Bounds) (t : Tale) (i : IsTale bounds t) where
   outer_by : (h : How) → t.outer ≡ Some h → h ≢ how.Done → IsKnown t 0
-  outer_by how.Halted e n = inr (i.fates.outer_halted e)
+  outer_by how.Halted e n = let q = i.fates.outer_halted e in inr (q.0, q.2)
   outer_by (how.Fault c) e n = i.fates.outer_fault c e
   outer_by how.Memory e n = i.stop (memory_ceased bounds t i (i.fates.outer_memory e))
   outer_by how.Done e n = absurd (n refl)
@@ -115,13 +116,13 @@ module _ (bounds : Bounds) (t : Tale) (i : IsTale bounds t) where
   pub learns : (vs cs : List Interruption) → AreCaused bounds t vs → IsTale bounds (learned t vs cs)
   learns vs cs new =
       let u : Tale = learned t vs cs in
-      let g : Grows t u = record { begun = λ k b. b; came = λ k h c. c; found = found_more t vs cs; known = known_more t vs cs; memory = λ e. e; pulled = λ j m. m } in
+      let g : Grows t u = record { begun = λ k b. b; came = λ k h c. c; seen = λ x m. among_left cs m; obeyed = λ j w m. m; known = known_more t vs cs; memory = λ e. e; pulled = λ j m. m } in
       record {
         frames = frames_stay bounds t i.frames t.fates t.outer (t.set ++ vs) (t.seen ++ cs) t.ceased t.memory (λ e. (e, (i.frames.quiet e).2)) i.frames.ceased (λ e. e) (λ k b. b) (λ h k b. b);
         ends = ends_kept bounds t u g NoEnd (none_fresh bounds t u) i.ends (λ k h m. inl m) (λ k h m. inl m) i.ends.apart;
         fates = fates_stay bounds t u g i.fates refl refl;
         room = room_passes bounds t u g (stays bounds t t.fates t.outer (t.set ++ vs) (t.seen ++ cs) t.ceased t.memory (omega arith) (λ k j l b e. e)) i.room;
-        caused = caused_more bounds t u g vs (λ m. m) (λ c. c) (λ c e. e) i.caused (λ c w m. cause_grows bounds t u g (λ z. z) (λ z. z) (λ d e. e) c w (new c w m));
+        caused = caused_more bounds t u g vs (λ m. m) (λ c. c) (λ c e. e) i.caused (λ c w m. cause_grows bounds t u g (λ z. z) (λ z. z) (λ d e. e) c w.why (new c w m));
         lacked = λ m. lacked_grows bounds t u g (λ e. e) (λ k e. e) (lacks_still bounds t u refl refl refl) (i.lacked m);
         stop = λ e. known_more t vs cs 0 (i.stop e);
       }
@@ -141,7 +142,7 @@ module _ (bounds : Bounds) (t : Tale) (i : IsTale bounds t) where
 
     begun_ends : KeepsEnds bounds (fated t Begun)
     begun_ends = record {
-      halted = λ k c. ⊎_elim (λ f. inl f) (λ f. absurd (may.run (inr f.0))) (i.ends.halted k c);
+      halted = λ k c. let q = i.ends.halted k c in (q.0, q.1, ⊎_elim (λ f. inl f) (λ f. absurd (may.run (inr (q.0, f.0)))) q.2);
       fault = λ k c m. absurd (may.run (i.ends.fault k c m).0);
       memory = λ k m. absurd (may.run (i.stop (memory_ceased bounds t i (i.ends.memory k m).0)));
       until = λ j k c is. let q = i.ends.until j k c is in (q.0, λ w b. ⊎_elim (λ o. q.1 w o) (λ e. absurd (may.own (subst (λ z. IsKnown t (suc z)) e.0 q.0))) (at_snoc t.fates Begun k Begun b));
@@ -171,7 +172,7 @@ module _ (bounds : Bounds) (t : Tale) (i : IsTale bounds t) where
     }
 
     pub begins : IsTale bounds (fated t Begun)
-    begins = record { frames = begun_frames; ends = begun_ends; fates = begun_fates; room = begun_room bounds t i may; caused = λ c w m. cause_begun c w (i.caused c w m); lacked = λ m. absurd (may.run (i.stop (memory_ceased bounds t i m))); stop = i.stop }
+    begins = record { frames = begun_frames; ends = begun_ends; fates = begun_fates; room = begun_room bounds t i may; caused = λ c w m. cause_begun c w.why (i.caused c w m); lacked = λ m. absurd (may.run (i.stop (memory_ceased bounds t i m))); stop = i.stop }
 
   -- a stream isn't begun
   module _ (f : Fate) (other : Begun ≡ f → ⊥) where
@@ -196,7 +197,7 @@ module _ (bounds : Bounds) (t : Tale) (i : IsTale bounds t) where
   pub skips : IsFoundSet t 0 ⊎ IsOwnCode bounds t (length t.fates) ⊎ IsOuterStopped t → IsTale bounds (fated t Skipped)
   skips cause =
       let u : Tale = fated t Skipped in
-      let g : Grows t u = record { begun = back Skipped not_skipped; came = λ k h c. c; found = λ c h. h; known = λ c h. h; memory = λ e. e; pulled = λ j m. m } in
+      let g : Grows t u = record { begun = back Skipped not_skipped; came = λ k h c. c; seen = λ x m. m; obeyed = λ j w m. m; known = λ c h. h; memory = λ e. e; pulled = λ j m. m } in
       record {
         frames = frames_stay bounds t i.frames (t.fates ++ Skipped ∷ []) t.outer t.set t.seen t.ceased t.memory (λ e. (e, (i.frames.quiet e).2)) i.frames.ceased (λ e. e) (λ k b. at_left t.fates (Skipped ∷ []) k Begun b) (λ h k b. back Skipped not_skipped k b);
         ends = ends_kept bounds t u g NoEnd (none_fresh bounds t u) i.ends (λ k h m. inl m) (λ k h m. inl m) i.ends.apart;
@@ -211,33 +212,33 @@ module _ (bounds : Bounds) (t : Tale) (i : IsTale bounds t) where
             (λ k e. ⊎_elim (λ o. inl o) (λ n. absurd (let q : Unmade ≡ Skipped = n.1 in cc)) (at_snoc t.fates Skipped k Unmade e))
             (λ s. s) i.fates.outer_halted i.fates.outer_fault i.fates.outer_memory;
         room = room_passes bounds t u g (stays bounds t (t.fates ++ Skipped ∷ []) t.outer t.set t.seen t.ceased t.memory (longer Skipped not_skipped) (λ k j l b e. ⊎_elim (λ o. o) (λ n. absurd (let q : Unmade ≡ Skipped = n.1 in cc)) (at_snoc t.fates Skipped j Unmade e))) i.room;
-        caused = λ c w m. cause_grows bounds t u g (λ z. z) (λ z. z) (λ d e. e) c w (i.caused c w m);
+        caused = λ c w m. cause_grows bounds t u g (λ z. z) (λ z. z) (λ d e. e) c w.why (i.caused c w m);
         lacked = λ m. lacked_grows bounds t u g (λ e. e) (λ k e. at_left t.fates (Skipped ∷ []) k Unmade e) (lacks_still bounds t u refl refl refl) (i.lacked m);
         stop = i.stop;
       }
 
-  pub wants : (vs cs : List Interruption) → Marks 0 why.Memory vs cs → IsTale bounds (learned (unmade t) vs cs)
-  wants vs cs mark =
+  pub wants : {w : Stop} (vs cs : List Interruption) → w.why ≡ why.Memory → Marks 0 w vs cs → IsTale bounds (learned (unmade t) vs cs)
+  wants {w = w} vs cs is mark =
       let u : Tale = learned (unmade t) vs cs in
-      let g : Grows t u = record { begun = back Unmade not_unmade; came = λ k h c. c; found = found_more t vs cs; known = known_more t vs cs; memory = λ e. refl; pulled = λ j m. m } in
+      let g : Grows t u = record { begun = back Unmade not_unmade; came = λ k h c. c; seen = λ x m. among_left cs m; obeyed = λ j w m. m; known = known_more t vs cs; memory = λ e. refl; pulled = λ j m. m } in
       record {
         frames = frames_stay bounds t i.frames (t.fates ++ Unmade ∷ []) t.outer (t.set ++ vs) (t.seen ++ cs) true true (λ e. absurd (not_both true e refl)) (λ e. inr (inr refl)) (λ e. refl) (λ k b. at_left t.fates (Unmade ∷ []) k Begun b) (λ h k b. back Unmade not_unmade k b);
         ends = ends_kept bounds t u g NoEnd (none_fresh bounds t u) i.ends (λ k h m. inl m) (λ k h m. inl m) i.ends.apart;
         fates = fates_kept bounds t u g i.fates
             (λ k e. ⊎_elim (λ o. inl o) (λ n. absurd (let q : Skipped ≡ Unmade = n.1 in cc)) (at_snoc t.fates Unmade k Skipped e))
             (λ k e. ⊎_elim (λ o. inl o) (λ n. inr (refl, above Unmade not_unmade k n.0)) (at_snoc t.fates Unmade k Unmade e))
-            (λ s. s) (λ e. g.found 0 (i.fates.outer_halted e)) (λ c e. g.known 0 (i.fates.outer_fault c e)) (λ e. refl);
+            (λ s. s) (λ e. outer_told_grows bounds t u g (i.fates.outer_halted e)) (λ c e. g.known 0 (i.fates.outer_fault c e)) (λ e. refl);
         room = room_passes bounds t u g (stays bounds t (t.fates ++ Unmade ∷ []) t.outer (t.set ++ vs) (t.seen ++ cs) true true (longer Unmade not_unmade) (λ k j l b e. ⊎_elim (λ o. o) (λ n. absurd (let m = turn_next bounds t i k b in let q : j ≡ length t.fates = n.0 in omega (arith, m, q, l))) (at_snoc t.fates Unmade j Unmade e))) i.room;
-        caused = caused_more bounds t u g vs (λ m. m) (λ c. c) (λ c e. e) i.caused (marked_caused bounds u 0 why.Memory vs cs mark (refl, refl));
+        caused = caused_more bounds t u g vs (λ m. m) (λ c. c) (λ c e. e) i.caused (marked_caused bounds u 0 w vs cs mark (why_caused bounds u 0 w why.Memory is (refl, refl)));
         lacked = λ m. inr (inr (inl (length t.fates, at_last t.fates Unmade)));
-        stop = λ e. marked_known t 0 why.Memory vs cs mark;
+        stop = λ e. marked_known t 0 w vs cs mark;
       }
 
   -- the outer stream ends
   pub outer_ends : (h : How) (vs cs : List Interruption) → t.outer ≡ None → TellsOuter bounds (learned (outer_ended t h) vs cs) h vs → IsTale bounds (learned (outer_ended t h) vs cs)
   outer_ends h vs cs none tells =
       let u : Tale = learned (outer_ended t h) vs cs in
-      let g : Grows t u = record { begun = λ k b. b; came = λ k j c. c; found = found_more t vs cs; known = known_more t vs cs; memory = or_left t.memory (is_memory h); pulled = λ j m. m } in
+      let g : Grows t u = record { begun = λ k b. b; came = λ k j c. c; seen = λ x m. among_left cs m; obeyed = λ j w m. m; known = known_more t vs cs; memory = or_left t.memory (is_memory h); pulled = λ j m. m } in
       record {
         frames = frames_stay bounds t i.frames t.fates (Some h) (t.set ++ vs) (t.seen ++ cs) (t.ceased || is_memory h) (t.memory || is_memory h)
             (λ e. let q = or_false t.ceased (is_memory h) e in (q.0, ap (λ b. b || is_memory h) (i.frames.quiet q.0).2 ∙ q.1))

@@ -80,7 +80,8 @@ module _ (opener : Opener) (ss : List Stream) where
       halted_stops : (k : ℕ) (h : How) → Ended t k h → h ≡ how.Halted → IsAlone k → EndStops work c (Inner k) ⊎ ends.IsLast k c.events
       halted_stops k h (told m) is a =
           let came : Came t k how.Halted = inl (subst (λ z. IsAmong (end_of k z) t.front) is m) in
-          ⊎_elim (λ f. inl (own_stops opener ss t c i r settled k f)) (λ f. inr (come_last k (how.Halted, came) f.1 a)) (i.ends.halted k came)
+          let told = i.ends.halted k came in
+          ⊎_elim (λ f. inl (own_stops opener ss t c i r settled k ((told.0, f.0), f.1))) (λ f. inr (come_last k (how.Halted, came) f.1 a)) told.2
       halted_stops k h (wanting m e) is a = absurd (let q : how.Memory ≡ how.Halted = sym e ∙ is in cc)
       halted_stops k h (whole m n e) is a = absurd (let q : how.Done ≡ how.Halted = sym e ∙ is in cc)
       halted_stops k h (halted e m n l q) is a = inr (come_last k (e, inr m) (i.ends.late k e m) a)

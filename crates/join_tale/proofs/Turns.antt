@@ -52,7 +52,7 @@ module _ (bounds : Bounds) (t : Tale) (i : IsTale bounds t) where
         h
 
     turned_tale : KeepsFates bounds turned → KeepsRoom bounds turned → IsTale bounds turned
-    turned_tale fates kept = record { frames = turned_frames; ends = turned_ends; fates = fates; room = kept; caused = λ c w m. turned_cause c w (i.caused c w m); lacked = λ m. turned_lacked (i.lacked m); stop = i.stop }
+    turned_tale fates kept = record { frames = turned_frames; ends = turned_ends; fates = fates; room = kept; caused = λ c w m. turned_cause c w.why (i.caused c w m); lacked = λ m. turned_lacked (i.lacked m); stop = i.stop }
 
   -- the outer stream is pulled
   pub pulls : ¬ (IsKnown t 0) → HasRoom bounds t → IsTale bounds (pulled t)

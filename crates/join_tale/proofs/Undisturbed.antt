@@ -8,7 +8,7 @@ use Rattle.chunk_core.specs.declared.code.How.TheVariants as how
 use Rattle.res_ledger.specs.declared.event.StreamNo.{StreamNo}
 use Rattle.res_ledger.specs.declared.event.StreamNo.TheVariants.{Outer, Inner}
 use Rattle.run_rules.specs.declared.end.EndOf.{EndOf}
-use Rattle.run_rules.specs.Ends.{EndStops, HasCauseToHalt, IsSilenced}
+use Rattle.run_rules.specs.Ends.{EndStopsInTime, HasCauseToHalt, IsSilenced}
 use Rattle.run_rules.specs.Facts.{IsFailure, at, is_fault}
 use Rattle.run_rules.specs.Work.{Work, RunRecord, Stream, most_of}
 use Rattle.join_tale.specs.Records.{Follows, IsUndisturbed}
@@ -32,7 +32,7 @@ module _ (work : Work) (c : RunRecord) (u : IsUndisturbed work c) where
   no_fault : (e : EndOf) → IsAmong e c.ends → IsFailure e.how → ⊥
   no_fault e m f = not_both (any (λ (x : EndOf). is_fault x.how) c.ends) u.faultless (any_at (λ (x : EndOf). is_fault x.how) e c.ends m (ap is_fault f.1))
 
-  no_end : (k : StreamNo) → EndStops work c k → ⊥
+  no_end : (k : StreamNo) → EndStopsInTime work c k → ⊥
   no_end Outer e = none_some e.1
   no_end (Inner k) e = no_until work.streams k u.until e.0 e.1
 

@@ -6,6 +6,9 @@ use Rattle.chunk_core.specs.Texts.{Frame}
 use Rattle.chunk_core.specs.declared.code.Code.{Code}
 use Rattle.chunk_core.specs.declared.code.How.{How}
 use Rattle.chunk_core.specs.declared.code.How.TheVariants as how
+use Rattle.interrupt_ctx.specs.Views.{interruption}
+use Rattle.interrupt_ctx.specs.declared.why.Stop.{Stop}
+use Rattle.res_ledger.specs.declared.event.StreamNo.TheVariants.{Outer, Inner}
 use Rattle.run_rules.specs.Facts.{at}
 use Rattle.run_rules.specs.Ends.{PrintsBehind}
 use Rattle.run_rules.specs.Outputs.{NeverFall}
@@ -26,9 +29,17 @@ IsLast bounds t k = is_in_turn bounds ≡ true → IsHighest t k
 abbrev pub IsEndedInTurn : Bounds → Tale → ℕ → Type 0
 IsEndedInTurn bounds t k = is_in_turn bounds ≡ true → (j : ℕ) × (bounds.until k ≡ Some j) × HasCome t j × (j ≤ k)
 
--- a code was found that is for k: its own, or that of all streams, behind which none was begun
+-- this was found in the context of k, or in that of all streams, and then none was begun behind k
+abbrev pub IsToldBy : Bounds → Tale → ℕ → Stop → Type 0
+IsToldBy bounds t k w = (IsAmong (interruption (suc k) w) t.seen × IsEndedInTurn bounds t k) ⊎ (IsAmong (interruption 0 w) t.seen × IsLast bounds t k)
+
+-- stream k obeyed what was found for it
 abbrev pub IsToldToHalt : Bounds → Tale → ℕ → Type 0
-IsToldToHalt bounds t k = (IsFoundSet t (suc k) × IsEndedInTurn bounds t k) ⊎ (IsFoundSet t 0 × IsLast bounds t k)
+IsToldToHalt bounds t k = (w : Stop) × IsAmong (Inner k, w) t.obeyed × IsToldBy bounds t k w
+
+-- the outer stream obeyed what was found in the context of all streams
+abbrev pub IsOuterTold : Tale → Type 0
+IsOuterTold t = (w : Stop) × IsAmong (Outer, w) t.obeyed × IsAmong (interruption 0 w) t.seen
 
 -- k had its turn: it was begun, or the outer stream was pulled in it
 abbrev pub HadTurn : Tale → ℕ → Type 0
@@ -45,6 +56,10 @@ IsOuterStopped t = (h : How) × (t.outer ≡ Some h) × (h ≢ how.Done)
 -- a code was found in the context of k; where one stream is open at a time, it had been set by then
 abbrev pub IsOwnCode : Bounds → Tale → ℕ → Type 0
 IsOwnCode bounds t k = IsFoundSet t (suc k) × (is_in_turn bounds ≡ true → IsSet t (suc k))
+
+-- stream k obeyed what was found in the context of all streams, or in its own; where one stream is open at a time, a code had been set there by then
+abbrev pub Obeys : Bounds → Tale → ℕ → Type 0
+Obeys bounds t k = (w : Stop) × IsAmong (Inner k, w) t.obeyed × (IsAmong (interruption 0 w) t.seen ⊎ (IsAmong (interruption (suc k) w) t.seen × (is_in_turn bounds ≡ true → IsSet t (suc k))))
 
 -- why k wasn't begun: a code was found that is its own, or one for all streams or the outer stream was stopped, and then none above k had its turn, however many may be open
 abbrev pub IsPassedOver : Bounds → Tale → ℕ → Type 0
@@ -99,7 +114,7 @@ pub record KeepsFates (bounds : Bounds) (t : Tale) : Type 0 where
   pub skipped : (k : ℕ) → at t.fates k ≡ Some Skipped → IsPassedOver bounds t k
   pub unmade : (k : ℕ) → at t.fates k ≡ Some Unmade → (t.memory ≡ true) × IsLastTurn t k
   pub nobody : bounds.most ≡ Some 0 → IsKnown t 0 × ((k : ℕ) → ¬ (IsBegun t k))
-  pub outer_halted : t.outer ≡ Some how.Halted → IsFoundSet t 0
+  pub outer_halted : t.outer ≡ Some how.Halted → IsOuterTold t
   pub outer_fault : (c : Code) → t.outer ≡ Some (how.Fault c) → IsKnown t 0
   pub outer_memory : t.outer ≡ Some how.Memory → t.memory ≡ true
 

@@ -5,22 +5,27 @@ use Rattle.chunk_core.specs.declared.code.How.{How}
 use Rattle.chunk_core.specs.declared.code.How.TheVariants as how
 use Rattle.interrupt_ctx.specs.Views.{interruption}
 use Rattle.interrupt_ctx.specs.declared.view.Interruption.{Interruption}
-use Rattle.interrupt_ctx.specs.declared.why.Why.{Why}
+use Rattle.interrupt_ctx.specs.declared.why.Stop.{Stop}
 use Rattle.interrupt_ctx.specs.declared.why.Why.TheVariants as why
+use Rattle.res_ledger.specs.declared.event.StreamNo.{StreamNo}
 use Rattle.run_rules.specs.Facts.{is_memory}
 use Rattle.chunk_core.specs.Lists.{IsAmong}
 use Rattle.join_tale.specs.Bounds.{Bounds, is_in_turn}
-use Rattle.join_tale.specs.Keeping.{HadTurn, HasRoom, IsOuterStopped, IsOwnCode, IsTale}
+use Rattle.join_tale.specs.Keeping.{HadTurn, HasRoom, IsOuterStopped, IsOuterTold, IsOwnCode, IsTale, Obeys}
 use Rattle.join_tale.specs.Tales.{AreCaused, Fate, HasCome, IsBegun, IsCaused, IsFoundSet, IsKnown, IsOpen, Tale, end_of, frames_of, load_of}
 use Rattle.join_tale.specs.Tales.Fate.{Begun, Skipped, Unmade}
 
 -- before the first message
 abbrev pub first_tale : Tale
-first_tale = record { front = []; late = []; fates = []; outer = None; set = []; seen = []; ceased = false; cut = None; memory = false; pulled = []; room = λ k. [] }
+first_tale = record { front = []; late = []; fates = []; outer = None; set = []; seen = []; obeyed = []; ceased = false; cut = None; memory = false; pulled = []; room = λ k. [] }
 
 -- these were set, and those found set
 abbrev pub learned : Tale → List Interruption → List Interruption → Tale
 learned t vs cs = record t { set = t.set ++ vs; seen = t.seen ++ cs }
+
+-- these streams were halted by what they found
+abbrev pub heeded : Tale → List (StreamNo × Stop) → Tale
+heeded t os = record t { obeyed = t.obeyed ++ os }
 
 -- the next stream has this fate
 abbrev pub fated : Tale → Fate → Tale
@@ -67,14 +72,14 @@ abbrev pub outer_ended : Tale → How → Tale
 outer_ended t h = record t { outer = Some h; ceased = t.ceased || is_memory h; memory = t.memory || is_memory h }
 
 -- the code was set in the context, or one was found there
-pub data Marks (context : ℕ) (w : Why) : List Interruption → List Interruption → Type 0 where
+pub data Marks (context : ℕ) (w : Stop) : List Interruption → List Interruption → Type 0 where
   fresh : Marks context w (interruption context w ∷ []) []
-  stale : (there : Why) → Marks context w [] (interruption context there ∷ [])
+  stale : (there : Stop) → Marks context w [] (interruption context there ∷ [])
 
 -- what is known when the end h of stream k is received: u is the tale behind it, and vs was set since
 pub record TellsEnd (bounds : Bounds) (u : Tale) (k : ℕ) (h : How) (vs : List Interruption) : Type 0 where
   pub caused : AreCaused bounds u vs
-  pub halted : h ≡ how.Halted → IsFoundSet u 0 ⊎ IsOwnCode bounds u k
+  pub halted : h ≡ how.Halted → Obeys bounds u k
   pub fault : (c : Code) → h ≡ how.Fault c → IsKnown u 0
   pub memory : h ≡ how.Memory → IsKnown u 0
   pub until : (i : ℕ) → bounds.until i ≡ Some k → IsKnown u (suc i)
@@ -82,7 +87,7 @@ pub record TellsEnd (bounds : Bounds) (u : Tale) (k : ℕ) (h : How) (vs : List 
 -- what is known when the outer stream has ended so
 pub record TellsOuter (bounds : Bounds) (u : Tale) (h : How) (vs : List Interruption) : Type 0 where
   pub caused : AreCaused bounds u vs
-  pub halted : h ≡ how.Halted → IsFoundSet u 0
+  pub halted : h ≡ how.Halted → IsOuterTold u
   pub fault : (c : Code) → h ≡ how.Fault c → IsKnown u 0
   pub memory : h ≡ how.Memory → IsKnown u 0
 
@@ -106,17 +111,18 @@ pub record MayBegin (bounds : Bounds) (t : Tale) : Type 0 where
 -- how a tale begins, and what keeps it
 pub record StepsKeepTale (bounds : Bounds) : Type 0 where
   pub starts : bounds.most ≢ Some 0 → IsTale bounds first_tale
-  pub starts_met : (vs cs : List Interruption) → Marks 0 why.Take vs cs → bounds.most ≡ Some 0 → IsTale bounds (record (learned first_tale vs cs) { ceased = true })
+  pub starts_met : (w : Stop) (vs cs : List Interruption) → w.why ≡ why.Take → Marks 0 w vs cs → bounds.most ≡ Some 0 → IsTale bounds (record (learned first_tale vs cs) { ceased = true })
   pub learns : (t : Tale) (vs cs : List Interruption) → IsTale bounds t → AreCaused bounds t vs → IsTale bounds (learned t vs cs)
+  pub heeds : (t : Tale) (os : List (StreamNo × Stop)) → IsTale bounds t → IsTale bounds (heeded t os)
   pub houses : (t : Tale) → IsTale bounds t → AreFewOpen bounds.max_open t → (room : ℕ → List ℕ) × MakesRoom bounds t room
   pub pulls : (t : Tale) → IsTale bounds t → ¬ (IsKnown t 0) → HasRoom bounds t → IsTale bounds (pulled t)
   pub begins : (t : Tale) → IsTale bounds t → MayBegin bounds t → IsTale bounds (fated t Begun)
   pub skips : (t : Tale) → IsTale bounds t → IsFoundSet t 0 ⊎ IsOwnCode bounds t (length t.fates) ⊎ IsOuterStopped t → IsTale bounds (fated t Skipped)
-  pub wants : (t : Tale) (vs cs : List Interruption) → Marks 0 why.Memory vs cs → IsTale bounds t → IsTale bounds (learned (unmade t) vs cs)
+  pub wants : (t : Tale) (w : Stop) (vs cs : List Interruption) → w.why ≡ why.Memory → Marks 0 w vs cs → IsTale bounds t → IsTale bounds (learned (unmade t) vs cs)
   pub writes : (t : Tale) (k : ℕ) (x : List ℕ) → IsTale bounds t → t.ceased ≡ false → IsOpen t k → 0 < length x → bounds.most ≢ Some (suc (length (frames_of t.front))) → IsTale bounds (written t k x)
-  pub meets : (t : Tale) (k : ℕ) (x : List ℕ) (vs cs : List Interruption) → Marks 0 why.Take vs cs → IsTale bounds t → t.ceased ≡ false → IsOpen t k → 0 < length x → bounds.most ≡ Some (suc (length (frames_of t.front))) → IsTale bounds (record (learned (written t k x) vs cs) { ceased = true })
-  pub fails : (t : Tale) (k : ℕ) (x : List ℕ) (vs cs : List Interruption) → Marks 0 why.Sink vs cs → IsTale bounds t → t.ceased ≡ false → IsOpen t k → 0 < length x → IsTale bounds (learned (failed t k x) vs cs)
-  pub lacks : (t : Tale) (k : ℕ) (x : List ℕ) (vs cs : List Interruption) → Marks 0 why.Memory vs cs → IsTale bounds t → t.ceased ≡ false → IsOpen t k → 0 < length x → IsTale bounds (learned (lacked t k x) vs cs)
+  pub meets : (t : Tale) (k : ℕ) (x : List ℕ) (w : Stop) (vs cs : List Interruption) → w.why ≡ why.Take → Marks 0 w vs cs → IsTale bounds t → t.ceased ≡ false → IsOpen t k → 0 < length x → bounds.most ≡ Some (suc (length (frames_of t.front))) → IsTale bounds (record (learned (written t k x) vs cs) { ceased = true })
+  pub fails : (t : Tale) (k : ℕ) (x : List ℕ) (w : Stop) (vs cs : List Interruption) → w.why ≡ why.Sink → Marks 0 w vs cs → IsTale bounds t → t.ceased ≡ false → IsOpen t k → 0 < length x → IsTale bounds (learned (failed t k x) vs cs)
+  pub lacks : (t : Tale) (k : ℕ) (x : List ℕ) (w : Stop) (vs cs : List Interruption) → w.why ≡ why.Memory → Marks 0 w vs cs → IsTale bounds t → t.ceased ≡ false → IsOpen t k → 0 < length x → IsTale bounds (learned (lacked t k x) vs cs)
   pub drops : (t : Tale) (k : ℕ) (x : List ℕ) → IsTale bounds t → t.ceased ≡ true → IsOpen t k → 0 < length x → IsTale bounds (dropped t k x)
   pub ends : (t : Tale) (k : ℕ) (h : How) (vs cs : List Interruption) → IsTale bounds t → t.ceased ≡ false → IsOpen t k → TellsEnd bounds (learned (ended t k h) vs cs) k h vs → IsTale bounds (learned (ended t k h) vs cs)
   pub ends_late : (t : Tale) (k : ℕ) (h : How) (vs cs : List Interruption) → IsTale bounds t → t.ceased ≡ true → IsOpen t k → TellsEnd bounds (learned (ended_late t k h) vs cs) k h vs → IsTale bounds (learned (ended_late t k h) vs cs)
@@ -129,4 +135,4 @@ pub record IsMarked (bounds : Bounds) (t : Tale) (context : ℕ) (vs : List Inte
 
 -- what is marked is known, and caused
 abbrev pub MarksAreKnown : Bounds → Type 0
-MarksAreKnown bounds = (t : Tale) (context : ℕ) (w : Why) (vs cs : List Interruption) → Marks context w vs cs → IsCaused bounds (learned t vs cs) context w → IsMarked bounds (learned t vs cs) context vs
+MarksAreKnown bounds = (t : Tale) (context : ℕ) (w : Stop) (vs cs : List Interruption) → Marks context w vs cs → IsCaused bounds (learned t vs cs) context w.why → IsMarked bounds (learned t vs cs) context vs

@@ -7,8 +7,11 @@ use Rattle.chunk_core.specs.declared.code.How.{How}
 use Rattle.chunk_core.specs.declared.code.How.TheVariants as how
 use Rattle.interrupt_ctx.specs.Views.{interruption}
 use Rattle.interrupt_ctx.specs.declared.view.Interruption.{Interruption}
+use Rattle.interrupt_ctx.specs.declared.why.Stop.{Stop}
 use Rattle.interrupt_ctx.specs.declared.why.Why.{Why}
 use Rattle.interrupt_ctx.specs.declared.why.Why.TheVariants as why
+use Rattle.res_ledger.specs.declared.event.StreamNo.{StreamNo}
+use Rattle.res_ledger.specs.declared.event.StreamNo.TheVariants.{Outer, Inner}
 use Rattle.run_rules.specs.Facts.{at}
 use Rattle.join_tale.specs.Bounds.{Bounds}
 
@@ -35,7 +38,8 @@ pub data Fate : Type 0 where
 
 -- `front` was received while frames were written, so that each of its loads is a frame, and `late` was received after. `fates` is what
 -- became of each stream, in order, and `outer` how the outer one ended, if it has. `set` are the contexts that were set, also by the
--- seats that were taken in, and `seen` those found set; context 0 is that of all streams, and 1 + k that of stream k. `ceased`: no
+-- seats that were taken in, and `seen` those found set; context 0 is that of all streams, and 1 + k that of stream k. `obeyed` are
+-- the streams that were halted, each with what it found, behind which it closed its root. `ceased`: no
 -- frame is written any more; `cut` is the frame whose write failed, which stands first in `late`; `memory`: memory was wanting.
 -- `pulled` are the streams in whose turn the outer one was pulled, and `room` tells of each stream that had its turn which others were open then.
 pub record Tale : Type 0 where
@@ -45,6 +49,7 @@ pub record Tale : Type 0 where
   pub outer : Option How
   pub set : List Interruption
   pub seen : List Interruption
+  pub obeyed : List (StreamNo × Stop)
   pub ceased : Bool
   pub cut : Option Frame
   pub memory : Bool
@@ -93,15 +98,20 @@ IsOpen t k = IsBegun t k × ¬ (HasCome t k)
 abbrev pub HasMet : Bounds → Tale → Type 0
 HasMet bounds t = bounds.most ≡ Some (length (frames_of t.front))
 
+-- the stream failed, as the end tells that came of it, or as the outer one ended
+abbrev pub FailedSo : Tale → StreamNo → Type 0
+FailedSo t Outer = (c : Code) × (t.outer ≡ Some (how.Fault c))
+FailedSo t (Inner k) = (c : Code) × Came t k (how.Fault c)
+
 -- a stream failed, or the outer one
 abbrev pub HasFailed : Tale → Type 0
 HasFailed t = ((k : ℕ) × (c : Code) × Came t k (how.Fault c)) ⊎ ((c : Code) × (t.outer ≡ Some (how.Fault c)))
 
 abbrev pub IsFoundSet : Tale → ℕ → Type 0
-IsFoundSet t context = (w : Why) × IsAmong (interruption context w) t.seen
+IsFoundSet t context = (w : Stop) × IsAmong (interruption context w) t.seen
 
 abbrev pub IsSet : Tale → ℕ → Type 0
-IsSet t context = (w : Why) × IsAmong (interruption context w) t.set
+IsSet t context = (w : Stop) × IsAmong (interruption context w) t.set
 
 -- a context is known to be set
 abbrev pub IsKnown : Tale → ℕ → Type 0
@@ -117,4 +127,4 @@ IsCaused bounds t context why.Fault = (context ≡ 0) × HasFailed t
 
 -- each of these was set for its cause
 abbrev pub AreCaused : Bounds → Tale → List Interruption → Type 0
-AreCaused bounds t xs = (context : ℕ) (w : Why) → IsAmong (interruption context w) xs → IsCaused bounds t context w
+AreCaused bounds t xs = (context : ℕ) (w : Stop) → IsAmong (interruption context w) xs → IsCaused bounds t context w.why

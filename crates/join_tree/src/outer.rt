@@ -11,6 +11,7 @@ ghost use Rattle.scope_tree.specs.Released.{away};
 ghost use Rattle.scope_tree.specs.Trees.{Fits, seen};
 ghost use Rattle.scope_tree.specs.Trace.{owed, trace};
 ghost use Rattle.scope_tree.specs.Visible.{lessee, row_room, rows_covered, scope_room};
+ghost use Rattle.tree_laws.specs.Called.{Called};
 ghost use Rattle.join_tree.specs.Given.{GivesMore, given, pulled};
 ghost use Rattle.join_tree.specs.Mains.{IsMain};
 ghost use Rattle.join_tree.specs.Progress.{Progress, closing_root, none_done, reading, skipping};
@@ -173,6 +174,7 @@ where
     ensures guests { KeepsGuests (seen S.view tree.old) (seen S.view tree.new) }
     ensures rows { KeepsRows (seen S.view tree.old).seat (seen S.view tree.new).seat }
     ensures events { TakesEvents 0 (seen S.view tree.old) (seen S.view tree.new) }
+    ensures called { Called S.Pay.ends (seen S.view tree.old) [] (seen S.view tree.new) }
     ensures owed { owed (seen S.view tree.new).seat ≡ 0 }
     ensures fits { Fits S.view S.fits tree.new desk.new }
     ensures others { OthersFit S.view S.fits Outer desk.old desk.new }

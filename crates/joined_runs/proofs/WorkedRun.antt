@@ -12,7 +12,13 @@ use Rattle.chunk_core.specs.declared.code.How.TheVariants as how
 use Rattle.chunk_core.proofs.Bools.{any_found}
 use Rattle.chunk_core.proofs.Distinct.{test_distinct}
 use Rattle.chunk_core.proofs.Each.{among_each}
-use Rattle.chunk_core.proofs.Members.{among_mid}
+use Rattle.chunk_core.proofs.Members.{among_cons, among_mid, among_nil}
+use Rattle.interrupt_ctx.specs.Views.{interruption}
+use Rattle.interrupt_ctx.specs.declared.view.Interruption.{Interruption}
+use Rattle.interrupt_ctx.specs.declared.why.Stop.{Stop}
+use Rattle.interrupt_ctx.specs.declared.why.Why.{Why}
+use Rattle.interrupt_ctx.specs.declared.why.Why.TheVariants as why
+use Rattle.res_ledger.specs.declared.event.StreamNo.{StreamNo}
 use Rattle.res_ledger.specs.declared.event.StreamNo.TheVariants.{Inner, Outer}
 use Rattle.res_ledger.specs.declared.event.What.TheVariants.{Acquire, Cancel, Close, Final, Lease}
 use Rattle.res_ledger.specs.declared.event.Event.{Event}
@@ -200,6 +206,13 @@ low_told : (k i : ℕ) → i < k → k ≤ 1 → IsAmong i (others k)
 low_told zero i l m = absurd (omega (arith, l))
 low_told (suc k) i l m = let z : i ≡ 0 = omega (arith, l, m) in subst (λ j. IsAmong j (0 ∷ [])) (sym z) (here [])
 
+-- the only code was set since enough was printed, and it names no front
+for_take : (d : ℕ) (w : Stop) → IsAmong (interruption d w) worked_tale.set → (v : Why) → w.why ≡ v → (why.Take ≡ v → ⊥) → ⊥
+for_take d w m v is other = ⊎_elim (λ z. other (sym (ap (λ (y : Interruption). y.stop.why) z) ∙ is)) (λ n. among_nil n) (among_cons m)
+
+behind_none : {n m : ℕ} → n ≡ 0 → n ≤ m
+behind_none e = omega (arith, e)
+
 recorded : IsRecordOf (bare (Some one_frame) two_files) worked_tale worked_run
 recorded = record {
   frames = refl;
@@ -214,6 +227,10 @@ recorded = record {
   leaves = λ j c. come_left j (come_begun (bounds_of one_frame two_files) worked_tale j worked_is_tale c.0 c.1);
   turns = λ k h. inl (low_begun k (turn_low k h.0 h.1 h.2));
   room = λ k i l w. low_told k i l (turn_low k w.2 (subst (λ E. IsAmong w.2 E) (sym w.3) (among_mid w.0 w.1 w.2)) w.4);
+  stamped = account.stamped;
+  behind = λ k w m e x i b q. behind_none (⊎_elim (λ z. ap (λ (y : StreamNo × Stop). y.1.at) z) (λ n. absurd (among_nil n)) (among_cons m));
+  failed = λ d w m is. absurd (for_take d w m why.Fault is (λ e. cc));
+  ended = λ d w m is. absurd (for_take d w m why.Until is (λ e. cc));
 }
 
 -- The streams.

@@ -9,16 +9,19 @@ use Rattle.chunk_core.specs.declared.code.How.{How}
 use Rattle.chunk_core.specs.declared.code.How.TheVariants as how
 use Rattle.interrupt_ctx.specs.Views.{interruption}
 use Rattle.interrupt_ctx.specs.declared.why.Why.TheVariants as why
+use Rattle.res_ledger.specs.declared.event.StreamNo.TheVariants.{Inner}
 use Rattle.join_tale.specs.Bounds.{Bounds, bounds_of}
 use Rattle.join_tale.specs.Ended.{Ended}
 use Rattle.join_tale.specs.Ended.Ended.{halted, whole}
 use Rattle.join_tale.specs.Keeping.{HasRoom, IsTale}
 use Rattle.join_tale.specs.Records.{IsSettled}
-use Rattle.join_tale.specs.Steps.{MayBegin, TellsEnd, TellsOuter, dropped, ended_late, fated, first_tale, housed, learned, outer_ended, pulled, written}
+use Rattle.join_tale.specs.Steps.{MayBegin, TellsEnd, TellsOuter, dropped, ended_late, fated, first_tale, heeded, housed, learned, outer_ended, pulled, written}
 use Rattle.join_tale.specs.Steps.Marks.{fresh}
 use Rattle.join_tale.specs.Tales.{Came, HasCome, IsBegun, IsOpen, Message, Tale, end_of, load_of}
 use Rattle.join_tale.specs.Tales.Fate.{Begun}
+use Rattle.join_tale.specs.Worked.{for_cause}
 use Rattle.join_tale.proofs.Ending.{ends_late}
+use Rattle.join_tale.proofs.Heeding.{heeds}
 use Rattle.join_tale.proofs.Parts.{no_end, same_end}
 use Rattle.join_tale.proofs.Places.{none_some, some_is}
 use Rattle.join_tale.proofs.Receiving.{drops, meets}
@@ -59,7 +62,7 @@ abbrev gave_both : Tale
 gave_both = learned (outer_ended begun_1 how.Done) [] []
 
 abbrev printed_0 : Tale
-printed_0 = record (learned (written gave_both 0 byte) (interruption 0 why.Take ∷ []) []) { ceased = true }
+printed_0 = record (learned (written gave_both 0 byte) (interruption 0 (for_cause why.Take) ∷ []) []) { ceased = true }
 
 abbrev late_1 : Tale
 late_1 = dropped printed_0 1 byte
@@ -67,8 +70,12 @@ late_1 = dropped printed_0 1 byte
 abbrev done_0 : Tale
 done_0 = learned (ended_late late_1 0 how.Done) [] []
 
+-- stream 1 is halted by what it found
+abbrev heeding : Tale
+heeding = heeded done_0 ((Inner 1, for_cause why.Take) ∷ [])
+
 abbrev pub worked_tale : Tale
-worked_tale = learned (ended_late done_0 1 how.Halted) [] (interruption 0 why.Take ∷ [])
+worked_tale = learned (ended_late heeding 1 how.Halted) [] (interruption 0 (for_cause why.Take) ∷ [])
 
 -- no stream is stopped by the end of another
 no_until : (i k : ℕ) → plain.until i ≡ Some k → ⊥
@@ -130,7 +137,7 @@ open_first : IsOpen gave_both 0
 open_first = (refl, λ c. ⊎_elim (λ m. among_nil m) (λ m. among_nil m) c.1)
 
 all_printed : IsTale plain printed_0
-all_printed = meets plain gave_both 0 byte all_given open_first (omega arith) (interruption 0 why.Take ∷ []) [] fresh refl refl
+all_printed = meets plain gave_both 0 byte all_given open_first (omega arith) (interruption 0 (for_cause why.Take) ∷ []) [] refl fresh refl refl
 
 open_second : IsOpen printed_0 1
 open_second = (refl, λ c. ⊎_elim (λ m. among_nil (skip_load 1 0 c.0 byte [] m)) (λ m. among_nil m) c.1)
@@ -147,24 +154,24 @@ tells_0 = record { caused = λ d w m. absurd (among_nil m); halted = λ e. cc; f
 first_ended : IsTale plain done_0
 first_ended = ends_late plain late_1 0 how.Done [] [] one_late open_0 refl tells_0
 
-open_1 : IsOpen done_0 1
+open_1 : IsOpen heeding 1
 open_1 = (refl, λ c. ⊎_elim (λ m. among_nil (skip_load 1 0 c.0 byte [] m)) (λ m. among_nil (skip_end 1 0 c.0 how.Done [] (λ e. omega (arith, e)) (skip_load 1 1 c.0 byte (end_of 0 how.Done ∷ []) m))) c.1)
 
 tells_1 : TellsEnd plain worked_tale 1 how.Halted []
 tells_1 = record {
   caused = λ d w m. absurd (among_nil m);
-  halted = λ e. inl (why.Take, here []);
+  halted = λ e. (for_cause why.Take, here [], inl (here []));
   fault = λ c e. cc;
   memory = λ e. cc;
   until = λ i e. absurd (no_until i 1 e);
 }
 
 pub worked_is_tale : IsTale plain worked_tale
-worked_is_tale = ends_late plain done_0 1 how.Halted [] (interruption 0 why.Take ∷ []) first_ended open_1 refl tells_1
+worked_is_tale = ends_late plain heeding 1 how.Halted [] (interruption 0 (for_cause why.Take) ∷ []) (heeds plain done_0 first_ended ((Inner 1, for_cause why.Take) ∷ [])) open_1 refl tells_1
 
 -- what was found set has been set
 pub worked_settled : IsSettled worked_tale
-worked_settled context w m = (w, m)
+worked_settled context w m = m
 
 -- How the streams ended.
 

@@ -149,6 +149,7 @@ module _ {S V F D T : Type 0} (view : S → View V) (told : V → DeviceTold) (f
           fates_are = i.telling.fates_are;
           outer_is = i.telling.outer_is ∙ o.1;
           turns = i.turns;
+          places = i.places;
           settled = settles i.tale c.stops i.telling.known i.telling.seated (i.telling.seats ∙ ap (λ (js : List _). length js) none_open);
         };
         moves_are = refl;

@@ -13,7 +13,7 @@ use device_port::{Depot, Device, Gate, Sink};
 use pipeline_desc::Plan;
 use pull_nodes::PipeState;
 use pull_stepper::Held;
-use row_seat::RowSeat;
+use row_seat::{MarksFront, RowSeat};
 use row_shared::SharesDesk;
 use std::alloc::Global;
 use std::sync::Wait;
@@ -26,7 +26,7 @@ use stream_workers::Place;
 pub(crate) fn run_lending<
     R: Threads + Wait + Sync,
     V: Device + Drop + Send,
-    S: SharesDesk + RowSeat<Pay = Held<V>> + Drop + Send,
+    S: SharesDesk + MarksFront + RowSeat<Pay = Held<V>> + Drop + Send,
     F: PipeState<Tables = Dicts> + Send,
     D: Depot<Dev = V>,
     K: Sink,
@@ -43,6 +43,7 @@ pub(crate) fn run_lending<
 ) -> Outcome
 where
     S::Desk: Drop + Send,
+    S::Mark: Drop + Send,
     requires limits { IsSoundPlan plan.now }
     requires room { IsRoomOfRun S.view plan.now room }
     requires fits { S.fits room.seat desk.old }
@@ -84,7 +85,7 @@ fn run_scoped<
     'a,
     R: Threads + Wait + Sync,
     V: Device + Drop + Send,
-    S: SharesDesk + RowSeat<Pay = Held<V>> + Drop + Send,
+    S: SharesDesk + MarksFront + RowSeat<Pay = Held<V>> + Drop + Send,
     F: PipeState<Tables = Dicts> + Send,
     D: Depot<Dev = V>,
     K: Sink,
@@ -99,6 +100,7 @@ fn run_scoped<
 ) -> Lent<'a, S, D, K>
 where
     S::Desk: Drop + Send,
+    S::Mark: Drop + Send,
     requires limits { IsSoundPlan plan.now }
     requires room { IsRoomOfRun S.view plan.now room }
     requires fits { S.fits room.seat lent.desk.now }
@@ -131,7 +133,7 @@ fn run_lent<
     E,
     R: Threads + Wait + Sync + 's,
     V: Device + Drop + Send + 's,
-    S: SharesDesk + RowSeat<Pay = Held<V>> + Drop + Send + 's,
+    S: SharesDesk + MarksFront + RowSeat<Pay = Held<V>> + Drop + Send + 's,
     F: PipeState<Tables = Dicts> + Send + 's,
     D: Depot<Dev = V>,
     K: Sink,
@@ -146,6 +148,7 @@ fn run_lent<
 ) -> Lent<'a, S, D, K>
 where
     S::Desk: Drop + Send + 's,
+    S::Mark: Drop + Send,
     requires limits { IsSoundPlan plan.now }
     requires room { IsRoomOfRun S.view plan.now room }
     requires fits { S.fits room.seat lent.desk.now }

@@ -22,7 +22,7 @@ use join_tree::{begin, settle};
 use pipeline_desc::Plan;
 use pull_nodes::PipeState;
 use pull_stepper::Held;
-use row_seat::RowSeat;
+use row_seat::{MarksFront, RowSeat};
 use row_shared::{SharedSeat, SharesDesk};
 use std::alloc::{AllocError, Global};
 use std::sync::Wait;
@@ -64,7 +64,7 @@ pub(crate) fn run_in<
     E,
     R: Threads + Wait + Sync + 's,
     V: Device + Drop + Send + 's,
-    S: SharesDesk + RowSeat<Pay = Held<V>> + Drop + Send + 's,
+    S: SharesDesk + MarksFront + RowSeat<Pay = Held<V>> + Drop + Send + 's,
     F: PipeState<Tables = Dicts> + Send + 's,
     D: Depot<Dev = V>,
     K: Sink,
@@ -81,6 +81,7 @@ pub(crate) fn run_in<
 ) -> Outcome
 where
     S::Desk: Drop + Send + 's,
+    S::Mark: Drop + Send,
     requires limits { IsSoundPlan plan.now }
     requires room { IsRoomOfRun S.view plan.now room }
     requires fits { S.fits room.seat desk.old }

@@ -15,4 +15,6 @@ pub mod Leaving
 pub mod Beginning
 pub mod Parting
 pub mod Turning
+pub mod Marking
+pub mod Again
 pub mod Threads

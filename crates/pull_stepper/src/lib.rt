@@ -4,9 +4,10 @@
 //! tables in which pipes look up, which it keeps; where memory is wanting it gives tree and devices
 //! back (`Unmade`). `turn` does one thing, and `uncons` makes turns until elements or the end come
 //! (`Unconsed`); a fault is an end. Where one of them answers `AllocError` the run may only be
-//! halted. `halt` closes all that is open, as canceled. `how` tells how the run ended, and `end` takes
-//! it apart: the tree, with the devices that were acquired on its shelf, and those that were never
-//! opened (`Ended`). Only `new` and `end` ask that the tables may be dropped. `Held` is a device as
+//! halted. `halt` closes all that is open, as canceled. Over a seat that sees how far the ledger is,
+//! `mark` keeps what it sees, and `halt_behind` closes the root behind that. `how` tells how the run
+//! ended, and `end` takes it apart: the tree, with the devices that were acquired on its shelf, and
+//! those that were never opened (`Ended`). Only `new` and `end` ask that the tables may be dropped. `Held` is a device as
 //! the payload of a row, which is closed as the row ends; `Resources` is a stream's tree with its
 //! devices, as what `pull_turns` runs a node over.
 //!
@@ -40,6 +41,7 @@
 
 pub mod crossing;
 pub mod held;
+pub mod marks;
 pub(crate) mod places;
 pub mod resources;
 pub mod stepper;

@@ -26,7 +26,7 @@ use std::alloc::{AllocError, Global};
 /// After want of memory it may only be halted. Once it has ended it is taken apart by `end`.
 #[derive(Drop)]
 pub struct Stepper<S: RowSeat, V, F: PipeState> {
-    runner: Runner<Resources<S, V>, F>,
+    pub(crate) runner: Runner<Resources<S, V>, F>,
     room: Vec<V>,
     tables: F::Tables,
 }

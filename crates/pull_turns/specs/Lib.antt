@@ -2,6 +2,7 @@ pub mod Around
 pub mod Failures
 pub mod Groups
 pub mod Led
+pub mod Lending
 pub mod Moves
 pub mod Passing
 pub mod Piping

@@ -5,7 +5,7 @@
 //! pipes look up, and `uncons` turns until elements or the end come (`Unconsed`), not more than so
 //! many; a fault is an end. Where one of them answers `AllocError`, the one error, the run may only
 //! be halted. `halt` closes all that is open, as canceled; `how` tells how the run ended, and `end`
-//! gives the outside back. `Rest` is what is left of a node that runs.
+//! gives the outside back; `outside_mut` lends it in between. `Rest` is what is left of a node that runs.
 //!
 //! In `worked_nodes`, `advance` makes turns to the first that gives elements or is the end, over any
 //! outside, and knows that what it gives is a front of each run of the node:

@@ -1,5 +1,6 @@
 //! A node that is run turn by turn.
 ghost use Rattle.std.specs.Prelude.{◌≡◌, ◌<◌, ◌≤◌, true, false, Some, None, IfOk, OnErr};
+ghost use Rattle.std.specs.Borrow.{Lends, sem};
 ghost use Rattle.chunk_core.specs.declared.code.Exit.TheVariants as exit;
 ghost use Rattle.chunk_core.specs.declared.code.How.TheVariants as how;
 ghost use Rattle.pull_turns.specs.Around.{Affords, IsClosedWith};
@@ -10,6 +11,7 @@ ghost use Rattle.pull_turns.specs.Sizes.{HasNoPipe, Sized, given, given_first};
 ghost use Rattle.pull_turns.specs.Turned.{Moved, Spends, SpendsWithin};
 ghost use Rattle.pull_turns.specs.Moves.{how_of};
 ghost use Rattle.pull_turns.specs.Led.{CanBeCut, IsShut, TouchesOnly, Turns, Uncons};
+ghost use Rattle.pull_turns.specs.Lending.{lends_outside};
 ghost use Rattle.pull_turns.specs.Work.{Lessens};
 ghost use Rattle.pull_turns.specs.declared.rest.Rest.TheVariants as rest;
 
@@ -65,6 +67,14 @@ impl<O: Outside, F: PipeState> Runner<O, F> {
             how: None,
             wanting: false,
         }
+    }
+
+    /// What it is run over.
+    pub fn outside_mut(&mut self) -> &mut O
+        ensures* back { sem 𝓛 (lends_outside O.row F.row self.entry result) }
+        ensures value { result.now ≡ self.old.outside }
+    {
+        &mut self.outside
     }
 
     /// Makes one turn. At the end each scope is closed, and each device, with the exit of the end.

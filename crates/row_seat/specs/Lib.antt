@@ -5,3 +5,4 @@ pub mod Laws
 pub mod Steps
 pub mod Hands
 pub mod PlainSeats
+pub mod Fronts

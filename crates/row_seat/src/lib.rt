@@ -40,6 +40,7 @@
 //! ```
 #![tactic(auto)]
 
+pub mod front;
 pub mod hand;
 pub mod knowledge;
 pub mod laws;
@@ -49,6 +50,7 @@ pub mod token;
 pub mod view;
 pub mod words;
 
+pub use front::{MarksFront, Sight};
 pub use plain::{PlainSeat, PlainTable};
 pub use seat::RowSeat;
 pub use view::{Left, View};

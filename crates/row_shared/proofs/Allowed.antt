@@ -32,6 +32,7 @@ use Rattle.row_shared.specs.declared.table.Start.{Start}
 use Rattle.row_shared.specs.Places.{IsRows, at_rest, idle, row_slot, row_word, token_of}
 use Rattle.row_shared.specs.Told.{Ended, Leased, Met, Placed, Quit, Ticked}
 use Rattle.row_shared.proofs.Itself.{names_kept}
+use Rattle.row_shared.proofs.Seeing.{sight_grows}
 use Rattle.row_shared.proofs.Keeping.{homes_keep, inside_after, rows_put, seated, set_same, word_else, word_here, word_put}
 
 mod_below : (a b : ℕ) → a < b → a % b ≡ a
@@ -62,7 +63,7 @@ module _ {P : Type 0} (k : Start) (rows id : ℕ) (t : Token P) (live : t.live �
         tt,
         rows_put h id at live (at_rest (noted t e)) ws s.homes (h.log ++ e ∷ []) (length-set s.words 0 m) refl
             (get_or-set_same s.words 0 m 0 (let a = h.words in omega arith) ∙ (next ∙ (ap (λ (a : ℕ). a + 1) h.stamp ∙ sym (length_push h.log e))))
-            rule (homes_keep h id at live (at_rest (noted t e)) refl) (λ q a. absurd (among_nil a)),
+            rule (homes_keep h id at live (at_rest (noted t e)) refl) (λ q a. absurd (among_nil a)) (sight_grows h.log e) (λ x m. absurd (among_nil m)),
         (
           (refl, inside_after h id at live (noted t e) rule live rows len),
           (omega arith, λ d a. let l = stamp_below h.log d books.stamped (books.inside id (book t) d b a) in omega arith),

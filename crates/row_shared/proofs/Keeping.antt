@@ -12,6 +12,8 @@ use Rattle.chunk_core.specs.Lists.IsAmong.{here}
 use Rattle.chunk_core.proofs.Members.{among_cons, among_nil}
 use Rattle.chunk_core.proofs.Places.{at_map}
 use Rattle.res_ledger.specs.declared.event.Event.{Event}
+use Rattle.row_seat.specs.Fronts.{IsSight}
+use Rattle.row_seat.specs.declared.front.Sight.{Sight}
 use Rattle.row_seat.specs.declared.token.Token.{Token}
 use Rattle.row_seat.specs.Rule.{IsInside, IsSeated, RuleHolds}
 use Rattle.row_seat.specs.Totals.{IsAt}
@@ -46,8 +48,9 @@ module _ {P : Type 0} {k : Start} {s : State (Option P) (Place P)} (h : IsRows k
     pub rows_put : (w : Place P) (ws : List ℕ) (hs : List (mathlib.Core.Option.Option (Option P))) (log : List Event) → length ws ≡ length s.words → length hs ≡ length s.homes → slice_index ws 0 ≡ length log
         → RuleHolds k.rows k.events (row_word ws) (row_slot hs) log (slice_set (map token_of s.views) id w.token)
         → HomesAgree k.rows hs (slice_set s.views id w) → ((r : ℕ) → IsAmong r w.lifted → IsAmong r w.token.opened ⊎ IsAmong r w.token.handed)
+        → ((x : Sight) → IsSight h.log x → IsSight log x) → ((x : Sight) → IsAmong x w.sights → IsSight log x)
         → (let t : State (Option P) (Place P) = record { words = ws; homes = hs; views = slice_set s.views id w } in IsRows k t)
-    rows_put w ws hs log lw lh stamp rule homes lifts = record {
+    rows_put w ws hs log lw lh stamp rule homes lifts grows sees = record {
       log = log;
       small = h.small;
       words = lw ∙ h.words;
@@ -56,6 +59,7 @@ module _ {P : Type 0} {k : Start} {s : State (Option P) (Place P)} (h : IsRows k
       rule = subst (λ l. RuleHolds k.rows k.events (row_word ws) (row_slot hs) log l) (sym (map_put token_of s.views id w)) rule;
       homes = homes;
       lifts = λ i r u. each s.views id w (λ i u. IsAmong r u.lifted → IsAmong r u.token.opened ⊎ IsAmong r u.token.handed) (lifts r) (λ i u ne g m. h.lifts i r u g m) i u;
+      sights = λ i u x. each s.views id w (λ i u. IsAmong x u.sights → IsSight log x) (sees x) (λ i u ne g m. grows x (h.sights i u x g m)) i u;
     }
 
     pub inside_after : {word : ℕ → ℕ} {slot : ℕ → Option P} {log : List Event} (w : Token P) → RuleHolds k.rows k.events word slot log (slice_set (map token_of s.views) id w) → w.live ≡ true → (n : ℕ) → length s.homes ≡ n → IsInside n w
@@ -91,4 +95,4 @@ module _ {P : Type 0} {k : Start} {s : State (Option P) (Place P)} (h : IsRows k
   -- the word of the row r becomes m, and a seat that holds no slot knows t
   pub word_put : (id : ℕ) {v : Token P} (at : IsAt s.views id (at_rest v)) (live : v.live ≡ true) (r m : ℕ) (t : Token P) → RuleHolds k.rows k.events (row_word (slice_set s.words (r + 1) m)) (row_slot s.homes) h.log (slice_set (map token_of s.views) id t)
       → (let z : State (Option P) (Place P) = record { words = slice_set s.words (r + 1) m; homes = s.homes; views = slice_set s.views id (at_rest t) } in IsRows k z)
-  word_put id at live r m t rule = rows_put id at live (at_rest t) (slice_set s.words (r + 1) m) s.homes h.log (length-set s.words (r + 1) m) refl (stamp_else r m) rule (homes_keep id at live (at_rest t) refl) (λ q a. absurd (among_nil a))
+  word_put id at live r m t rule = rows_put id at live (at_rest t) (slice_set s.words (r + 1) m) s.homes h.log (length-set s.words (r + 1) m) refl (stamp_else r m) rule (homes_keep id at live (at_rest t) refl) (λ q a. absurd (among_nil a)) (λ x g. g) (λ x m. absurd (among_nil m))

@@ -7,6 +7,7 @@ use Rattle.atomic_table.specs.Table.{opening}
 use Rattle.atomic_table.proofs.Lists.{some_there}
 use Rattle.chunk_core.specs.Lists.{IsAmong}
 use Rattle.chunk_core.proofs.Members.{among_nil}
+use Rattle.row_seat.specs.Fronts.{IsSight}
 use Rattle.row_seat.specs.Rule.{IsInside}
 use Rattle.row_seat.specs.Views.{run}
 use Rattle.row_seat.proofs.Splits.{in_run}
@@ -32,6 +33,7 @@ module _ {P : Type 0} (k : Start) where
     rule = starts k.by k.rows k.events (k.seats - 1) (row_word ws) (row_slot hs) (λ r. all_zero (k.rows + 1) (r + 1));
     homes = λ r l. inl (some_there (replicate k.rows none) r (let e = length-replicate k.rows none in omega arith));
     lifts = λ i r u g. one_view f (λ i u. IsAmong r u.lifted → IsAmong r u.token.opened ⊎ IsAmong r u.token.handed) (λ m. absurd (among_nil m)) i u g;
+    sights = λ i u x g. one_view f (λ i u. IsAmong x u.sights → IsSight [] x) (λ m. absurd (among_nil m)) i u g;
   }
 
   pub first_inside : (let v : Place P = first_place k in IsInside k.rows v.token)

@@ -7,6 +7,7 @@ use Rattle.chunk_core.proofs.Members.{among_nil}
 use Rattle.chunk_core.proofs.Places.{at_set}
 use Rattle.res_ledger.specs.declared.event.StreamNo.TheVariants.{Inner}
 use Rattle.res_ledger.specs.Ledger.{IsAcquired, IsLeased}
+use Rattle.row_seat.specs.Fronts.{IsSight}
 use Rattle.row_seat.specs.declared.token.Token.{Token}
 use Rattle.row_seat.specs.Rule.{IsInside, RuleHolds}
 use Rattle.row_seat.specs.Steps.{joined, split_main, split_off}
@@ -35,6 +36,7 @@ module _ {P : Type 0} (k : Start) (id : ℕ) (t : Token P) (live : t.live ≡ tr
         (split_keeps h.rule (seated h id at live) j from to n main foreign no_seat span enough named);
     homes = λ r l. ⊎_elim (λ o. inl o) (λ o. inr (some_more s.views id (at_rest t) left right at (λ (u : Place P). IsAmong r u.lifted) (λ m. inl m) o)) (h.homes r l);
     lifts = λ i r u. each_more s.views id (at_rest t) left right at (λ i u. IsAmong r u.lifted → IsAmong r u.token.opened ⊎ IsAmong r u.token.handed) (λ m. absurd (among_nil m)) (λ i u ne g. h.lifts i r u g) (λ m. absurd (among_nil m)) i u;
+    sights = λ i u x. each_more s.views id (at_rest t) left right at (λ i u. IsAmong x u.sights → IsSight h.log x) (λ m. absurd (among_nil m)) (λ i u ne g. h.sights i u x g) (λ m. absurd (among_nil m)) i u;
   }
 
   pub joins : (jd : ℕ) (w : Token P) → w.live ≡ true → t.main ≡ true → TookIn (joined t w) t w → w.pairs ≡ [] → w.kept ≡ [] → w.handed ≡ [] → Joins (λ s. IsRows k s) id (at_rest t) jd (at_rest w) (at_rest (joined t w)) (gone_by w.by)
@@ -51,6 +53,7 @@ module _ {P : Type 0} (k : Start) (id : ℕ) (t : Token P) (live : t.live ≡ tr
             (join_keeps h.rule (seated h id at live) (seated h jd at' live') main two.name two.by two.out two.shut no_pair no_kept no_hand);
         homes = λ r l. ⊎_elim (λ o. inl o) (λ o. inr (some_two s.views id jd (at_rest t) (at_rest w) a b at at' apart (λ (u : Place P). IsAmong r u.lifted) (λ m. m) (λ m. absurd (among_nil m)) o)) (h.homes r l);
         lifts = λ i r u. each_two s.views id jd (at_rest t) (at_rest w) a b at at' apart (λ i u. IsAmong r u.lifted → IsAmong r u.token.opened ⊎ IsAmong r u.token.handed) (λ m. absurd (among_nil m)) (λ m. absurd (among_nil m)) (λ i u ne ne' g. h.lifts i r u g) i u;
+        sights = λ i u x. each_two s.views id jd (at_rest t) (at_rest w) a b at at' apart (λ i u. IsAmong x u.sights → IsSight h.log x) (λ m. absurd (among_nil m)) (λ m. absurd (among_nil m)) (λ i u ne ne' g. h.sights i u x g) i u;
       }
 
 -- the rows of a seat that is split off, and of what is left

@@ -37,7 +37,7 @@ only_row r q m = ⊎_elim (λ e. e) (λ z. absurd (among_nil z)) (among_cons m)
 module _ {P : Type 0} (k : Start) (rows id : ℕ) (t : Token P) (live : t.live ≡ true) where
   -- what a seat with the slot of the row r has
   abbrev pub keeper : Token P → ℕ → Place P
-  keeper w r = record { token = w; lifted = r ∷ [] }
+  keeper w r = record { token = w; lifted = r ∷ []; sights = [] }
 
   -- a look at the row's word that takes or gives its slot
   seen_words : (r : ℕ) (s : State (Option P) (Place P)) (hs : List (mathlib.Core.Option.Option (Option P))) (w : Place P) → (let z : State (Option P) (Place P) = record { words = s.words; homes = hs; views = slice_set s.views id w } in IsRows k z)
@@ -53,7 +53,7 @@ module _ {P : Type 0} (k : Start) (rows id : ℕ) (t : Token P) (live : t.live �
       let rule = with_slot h.rule r (row_slot hs) (λ q ne. ap at_home (set_else s.homes r q none ne)) (λ n e l. omega arith)
       (λ i p g m. absurd (not_handed h.rule seat r (leases r (map work ts)) b i p g m)) in
       let put = rows_put h id at live (keeper t r) s.words hs h.log refl (length-set s.homes r none) h.stamp (subst (λ l. RuleHolds k.rows k.events (row_word s.words) (row_slot hs) h.log l) (sym (set_again ts id t seat.at)) rule)
-      (homes_take h id at live r (keeper t r) refl refl) (λ q m. inl (subst (λ a. IsAmong a t.opened) (sym (only_row r q m)) mine)) in (
+      (homes_take h id at live r (keeper t r) refl refl) (λ q m. inl (subst (λ a. IsAmong a t.opened) (sym (only_row r q m)) mine)) (λ x g. g) (λ x m. absurd (among_nil m)) in (
         keeper t r,
         takes r x.0,
         x.1,
@@ -70,7 +70,7 @@ module _ {P : Type 0} (k : Start) (rows id : ℕ) (t : Token P) (live : t.live �
       let lies : x.0 ≡ Some g.0 = sym (ap at_home x.1) ∙ g.2 new in
       let rule = take_keeps h.rule seat (row_slot hs) r (λ q ne. ap at_home (set_else s.homes r q none ne)) mine in
       let put = rows_put h id at live (keeper w r) s.words hs h.log refl (length-set s.homes r none) h.stamp rule
-      (homes_take h id at live r (keeper w r) refl refl) (λ q m. inr (subst (λ a. IsAmong a t.handed) (sym (only_row r q m)) mine)) in (
+      (homes_take h id at live r (keeper w r) refl refl) (λ q m. inr (subst (λ a. IsAmong a t.handed) (sym (only_row r q m)) mine)) (λ x g. g) (λ x m. absurd (among_nil m)) in (
         keeper w r,
         takes r x.0,
         x.1,
@@ -87,7 +87,7 @@ module _ {P : Type 0} (k : Start) (rows id : ℕ) (t : Token P) (live : t.live �
       (λ i p g m. let e = one_hand h.rule seat r i p g mine m in
       subst (λ (z : Purse P). IsAmong r z.taken) (one_at (map purse ts) id (purse t) p (at_purse h.rule seat) (subst (λ (a : ℕ). IsAt (map purse ts) a p) e g)) taken) in
       let put = rows_put h id at live (at_rest t) s.words hs h.log refl (length-set s.homes r (some y)) h.stamp (subst (λ l. RuleHolds k.rows k.events (row_word s.words) (row_slot hs) h.log l) (sym (set_again ts id t seat.at)) rule)
-      (homes_give h id at live r y (at_rest t) refl) (λ q m. absurd (among_nil m)) in (at_rest t, gives, tt, seen_words r s hs (at_rest t) put, refl)
+      (homes_give h id at live r y (at_rest t) refl) (λ q m. absurd (among_nil m)) (λ x g. g) (λ x m. absurd (among_nil m)) in (at_rest t, gives, tt, seen_words r s hs (at_rest t) put, refl)
 
   -- the row is closed, and its slot given back with the payload in it
   pub shut_allows : (r q c : ℕ) (p : P) → q ≡ r → Notes t.events t.by (Acquire r c) → IsClosed t.events t.by c → IsAmong r t.opened → ((j : ℕ) → IsAmong (j, r) t.pairs → (z : ℕ) × Notes t.events t.by (Lease j z))
@@ -100,7 +100,7 @@ module _ {P : Type 0} (k : Start) (rows id : ℕ) (t : Token P) (live : t.live �
       let elsewhere : (q : ℕ) → q ≢ r → row_slot hs q ≡ row_slot s.homes q = λ q ne. ap at_home (set_else s.homes r q (some (Some p)) ne) in
       let there : row_slot hs r ≡ Some p = ap at_home (set_here s.homes r (some (Some p)) (let a = h.slots in let l = b.0 in omega arith)) in
       let put : (w : Token P) → RuleHolds k.rows k.events (row_word ws) (row_slot hs) h.log (slice_set ts id w) → (let z : State (Option P) (Place P) = record { words = ws; homes = hs; views = slice_set s.views id (at_rest w) } in IsRows k z)
-      = λ w rule. rows_put h id at live (at_rest w) ws hs h.log (length-set s.words (r + 1) m) (length-set s.homes r (some (Some p))) (stamp_else h r m) rule (homes_give h id at live r (Some p) (at_rest w) refl) (λ q m. absurd (among_nil m)) in
+      = λ w rule. rows_put h id at live (at_rest w) ws hs h.log (length-set s.words (r + 1) m) (length-set s.homes r (some (Some p))) (stamp_else h r m) rule (homes_give h id at live r (Some p) (at_rest w) refl) (λ q m. absurd (among_nil m)) (λ x g. g) (λ x m. absurd (among_nil m)) in
       ⊎_elim
       (λ e. let w = handed_over (shut t r p) r p in
       let rule = close_yours h.rule seat (row_word ws) r (word_else h r m) (row_slot hs) p elsewhere there c acquired closed mine named now (omega arith) in (

@@ -87,3 +87,7 @@ pub calls_stay : {P : Type 0} (s o : SharedSeat P) (k : StreamNo) (d e : TableRe
 calls_stay s o k d e fit others side h =
     let f = stranger_fits s k d fit in
     fits_other (stranger s k) o d e f (others (stranger s k) (another_is k) f) h side
+
+-- what is done at a handle leaves it at its table
+pub same_table : {P : Type 0} (s : SharedSeat P) (k : StreamNo) (d e : TableRef P) → SharedFits s d → OthersFit shown SharedFits k d e → (arc_value d.table).shared.table_id ≡ (arc_value e.table).shared.table_id
+same_table s k d e fit others = let o = others (stranger s k) (another_is k) (stranger_fits s k d fit) in sym fit.table.0 ∙ o.table.0

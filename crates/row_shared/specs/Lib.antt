@@ -4,3 +4,4 @@ pub mod Orders
 pub mod Seats
 pub mod Laws
 pub mod Handles
+pub mod Marked

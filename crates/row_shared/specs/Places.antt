@@ -8,7 +8,9 @@ use Rattle.chunk_core.specs.Lists.{IsAmong}
 use Rattle.res_ledger.specs.Ledger.{IsAcquired}
 use Rattle.res_ledger.specs.declared.event.Event.{Event}
 use Rattle.res_ledger.specs.declared.event.StreamNo.{StreamNo}
-use Rattle.res_ledger.specs.declared.event.StreamNo.TheVariants.{Inner}
+use Rattle.res_ledger.specs.declared.event.StreamNo.TheVariants.{Inner, Outer}
+use Rattle.row_seat.specs.Fronts.{IsSight}
+use Rattle.row_seat.specs.declared.front.Sight.{Sight}
 use Rattle.row_seat.specs.declared.token.Token.{Token}
 use Rattle.row_seat.specs.Rule.{KnowsRows, RuleHolds}
 use Rattle.row_seat.specs.Steps.{first_token, joined}
@@ -32,9 +34,13 @@ module _ {P : Type 0} where
   abbrev pub token_of : Place P → Token P
   token_of v = v.token
 
-  -- between two calls a seat holds no slot
+  -- a seat that holds no slot and saw this of the ledger
+  abbrev pub seeing : Token P → List Sight → Place P
+  seeing t xs = record { token = t; lifted = []; sights = xs }
+
+  -- between two calls a seat holds no slot, and what it saw is kept by marks
   abbrev pub at_rest : Token P → Place P
-  at_rest t = record { token = t; lifted = [] }
+  at_rest t = seeing t []
 
   -- a seat between two calls, as a step finds it
   abbrev pub idle : Token P → Seated P
@@ -42,7 +48,15 @@ module _ {P : Type 0} where
 
   -- a seat that holds the slot of the row r, with x in it
   abbrev pub holding : Token P → ℕ → Option P → Seated P
-  holding t r x = (record { token = t; lifted = r ∷ [] }, (r, x) ∷ [])
+  holding t r x = (record { token = t; lifted = r ∷ []; sights = [] }, (r, x) ∷ [])
+
+  -- what a mark knows beside what was seen
+  abbrev pub nobody : Token P
+  nobody = record { live = false; main = false; by = Outer; empty = []; opened = []; pairs = []; kept = []; handed = []; taken = []; given = []; left = []; events = []; floor = 0; spare = 0; had = []; out = []; splits = 0 }
+
+  -- a mark that keeps this, as a step finds it
+  abbrev pub marking : Sight → Seated P
+  marking x = (seeing nobody (x ∷ []), [])
 
   -- what is left of a seat with the name k that was taken in
   abbrev pub gone_by : StreamNo → Place P
@@ -79,6 +93,8 @@ module _ {P : Type 0} where
     pub rule : RuleHolds k.rows k.events (row_word s.words) (row_slot s.homes) log (map token_of s.views)
     pub homes : HomesAgree k.rows s.homes s.views
     pub lifts : LiftsAgree s.views
+    -- what was seen of the ledger
+    pub sights : (i : ℕ) (u : Place P) (x : Sight) → IsAt s.views i u → IsAmong x u.sights → IsSight log x
 
   -- what a seat knows of itself alone, whatever the others do
   pub record KnowsItself (v : Token P) : Type 0 where

@@ -1,8 +1,10 @@
 -- What each step tells the seat that makes it, which knows t.
-use Rattle.std.specs.Prelude.{◌≡◌, ◌≢◌, ℕ, ◌+◌, ◌≤◌, true, List, [], length, Some, Option}
+use Rattle.std.specs.Prelude.{◌≡◌, ◌≢◌, ℕ, ◌+◌, ◌^◌, ◌<◌, ◌≤◌, true, List, [], ◌∷◌, length, Some, Option}
 use Rattle.chunk_core.specs.Lists.{IsAmong}
 use Rattle.res_ledger.specs.declared.event.Event.{Event}
 use Rattle.res_ledger.specs.declared.event.What.{What}
+use Rattle.row_seat.specs.Fronts.{StandsBehind, sight_of}
+use Rattle.row_seat.specs.declared.front.Sight.{Sight}
 use Rattle.row_seat.specs.declared.token.Token.{Token}
 use Rattle.row_seat.specs.declared.view.Left.{Left}
 use Rattle.row_seat.specs.declared.view.Left.TheVariants.{Stays, Yours}
@@ -11,7 +13,7 @@ use Rattle.row_seat.specs.Rule.{IsInside, view_of}
 use Rattle.row_seat.specs.Steps.{gone, handed_over, joined, leased, noted, placed, shut, took}
 use Rattle.row_seat.specs.Totals.{stamp_times}
 use Rattle.row_seat.specs.Views.{AreApart, IsFreshStamp, IsHeldStill, IsLastLease, IsLedgerOf, MayStay}
-use Rattle.row_shared.specs.Places.{Seated, TookIn, holding, idle}
+use Rattle.row_shared.specs.Places.{Seated, TookIn, holding, idle, seeing}
 
 module _ {P : Type 0} where
   -- between two calls the seat is in use and holds no slot
@@ -71,6 +73,18 @@ module _ {P : Type 0} where
   -- the payload of a handed row is taken out of its slot
   abbrev pub Taken : ℕ → P → Token P → Seated P → Type 0
   Taken r x t after = (after ≡ idle (took t r)) × IsGiven r x t
+
+  -- the seat, which knows t, has this sight
+  abbrev pub IsMarked : Token P → Sight → Seated P → Type 0
+  IsMarked t x me = me ≡ (seeing t (x ∷ []), [])
+
+  -- the seat saw that the ledger has n events
+  abbrev pub Saw : ℕ → Token P → ℕ → Seated P → Type 0
+  Saw rows t n after = IsMarked t (sight_of (view_of t []) n) after × IsFreshStamp (view_of t []) n × (n < 2 ^ 40)
+
+  -- a mark with these sights was taken in: what the seat's stream noted since stands behind each
+  abbrev pub Recalled : Token P → List Sight → Seated P → Type 0
+  Recalled t xs after = (after ≡ idle t) × ((x : Sight) → IsAmong x xs → x.by ≡ t.by → StandsBehind x t.events)
 
   -- a seat that was taken in was apart from this one
   abbrev pub Met : ℕ → ℕ → Token P → Seated P → Type 0

@@ -41,10 +41,13 @@
 
 pub mod crossing;
 pub mod laws;
+pub mod marks;
 pub mod seat;
 pub mod share;
+mod sights;
 mod steps;
 pub mod table;
 
+pub use marks::SharedMark;
 pub use seat::{SharedSeat, TableRef};
 pub use share::SharesDesk;

@@ -18,7 +18,7 @@ use std::sync::Arc;
 /// A handle on the table. The last one drops the table, with what is still in a slot.
 #[derive(Drop)]
 pub struct TableRef<P: Drop> {
-    table: Arc<RowTable<P>, Global>,
+    pub(crate) table: Arc<RowTable<P>, Global>,
 }
 
 impl<P: Drop> TableRef<P> {
@@ -39,7 +39,7 @@ impl<P: Drop> TableRef<P> {
 #[derive(Drop)]
 pub struct SharedSeat<P> {
     by: StreamNo,
-    pass: RowPass<P>,
+    pub(crate) pass: RowPass<P>,
     hands: Vec<(u32, P)>,
     events: Vec<Event>,
 }

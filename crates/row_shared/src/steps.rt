@@ -27,7 +27,7 @@ const FREE: u64 = 1;
 const LAST: u64 = 7;
 
 // The word of the next stamp.
-const STAMP: usize = 0;
+pub(crate) const STAMP: usize = 0;
 
 fn tick_as<P, W: About>(table: &RowShared<P>, pass: &mut RowPass<P>, what: What) -> u64
     requires said { (W.what ≡ what) × (W.room ≡ table.now.key.events) }

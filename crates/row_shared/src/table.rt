@@ -5,6 +5,7 @@ ghost use Rattle.std.specs.Prelude.{ℕ};
 
 use atomic_table::{Join, Play, Seat, Shared, Split, Table, TableRule};
 use res_ledger::{StreamNo, What};
+use row_seat::Sight;
 use row_seat::token::Token;
 use std::alloc::Global;
 use std::collections::LinkedList;
@@ -15,6 +16,8 @@ pub struct Place<P> {
     pub token: Token<P>,
     /// The rows whose slot the seat holds.
     pub lifted: LinkedList<u32>,
+    /// What was seen of the ledger, by a mark or by a seat that is to have one.
+    pub sights: LinkedList<Sight>,
 }
 
 /// What the table is told when it is made.
@@ -186,6 +189,47 @@ impl<P> Play<Option<P>, Place<P>> for Ends {
     ghost use Rattle.row_shared.specs.Told.{Ended};
 
     ghost then = { λ _ me _ after. Ended me.0.token after };
+}
+
+/// A look at the front of the ledger.
+pub struct Sees;
+
+impl<P> Play<Option<P>, Place<P>> for Sees {
+    ghost use Rattle.row_shared.specs.Told.{Saw};
+
+    ghost then = { λ step me n after. Saw step.slots me.0.token n after };
+}
+
+/// A look at the table after a mark was taken in.
+pub struct Recalls;
+
+impl<P> Play<Option<P>, Place<P>> for Recalls {
+    ghost use Rattle.row_shared.specs.Told.{Recalled};
+
+    ghost then = { λ _ me _ after. Recalled me.0.token me.0.sights after };
+}
+
+/// What a seat saw is kept by a mark.
+pub struct Marks;
+
+impl<P> Split<Place<P>> for Marks {
+    ghost use Rattle.row_shared.specs.Places.{at_rest, nobody, seeing};
+
+    ghost left = { λ v. at_rest v.token };
+
+    ghost right = { λ v. seeing nobody v.sights };
+}
+
+/// A mark is taken in.
+pub struct Unmarks;
+
+impl<P> Join<Place<P>> for Unmarks {
+    ghost use Rattle.std.specs.Prelude.{[]};
+    ghost use Rattle.row_shared.specs.Places.{nobody, seeing};
+
+    ghost both = { λ v w. seeing v.token w.sights };
+
+    ghost spent = { seeing nobody [] };
 }
 
 /// A seat is split off.

@@ -1,25 +1,29 @@
 -- The tests of ends are exact.
-use Rattle.std.proofs.Common.{◌≡◌, ◌⊎◌, ℕ, ◌<◌, ◌≤◌, Bool, true, ◌&&◌, ◌||◌, not, nat_le, nat_lt, List, length, Some, None, refl, sym, subst}
-use Rattle.std.specs.Prelude.{is_some}
+use Rattle.std.proofs.Common.{◌≡◌, ◌⊎◌, ℕ, ◌<◌, ◌≤◌, Bool, true, false, ◌&&◌, ◌||◌, not, nat_eq, nat_le, nat_lt, List, length, Some, None, refl, sym, ap, ◌∙◌, subst}
+use Rattle.std.specs.Prelude.{is_some, if◌then◌else◌}
 use Rattle.std.proofs.lemmas.Bool.{false≢true}
 use Rattle.std.specs.Bool.{Decides}
 use Rattle.std.specs.List.{list_any as any, list_all as all}
 use Rattle.chunk_core.specs.Lists.{IsAmong}
+use Rattle.chunk_core.specs.declared.code.Exit.{Exit}
 use Rattle.chunk_core.specs.declared.code.How.{How}
 use Rattle.chunk_core.specs.declared.code.How.TheVariants as how
 use Rattle.res_ledger.specs.declared.event.StreamNo.{StreamNo}
 use Rattle.res_ledger.specs.declared.event.StreamNo.TheVariants.{Inner, Outer}
 use Rattle.res_ledger.specs.declared.event.Event.{Event}
+use Rattle.res_ledger.specs.declared.event.What.{What}
+use Rattle.res_ledger.specs.declared.event.What.TheVariants.{Close}
+use Rattle.res_ledger.specs.Ledger.{NotesClose}
 use Rattle.res_ledger.specs.Streams.{same_stream}
 use Rattle.device_port.specs.Device.{DeviceTold, Place}
 use Rattle.run_rules.specs.declared.end.EndOf.{EndOf}
 use Rattle.run_rules.specs.Devices.{came_back}
-use Rattle.run_rules.specs.Ends.{EndIsCaused, EndStops, FaultStops, HasBegun, HasCauseToHalt, IsLast, IsShown, IsSilenced, IsStopped, MayStop, SilenceStops, act_count, last_stream}
-use Rattle.run_rules.specs.Facts.{Acts, HasLeft, IsFailure, IsOver, acts, at, first_numbers, has_left, is_fault, is_halted, is_memory, holds_number, is_over, is_place}
+use Rattle.run_rules.specs.Ends.{ClosesBefore, EndIsCaused, EndStops, EndStopsInTime, FaultStops, HasBegun, HasCauseToHalt, IsLast, IsShown, IsSilenced, IsStopped, MayStop, SilenceStops, act_count, last_stream}
+use Rattle.run_rules.specs.Facts.{Acts, HasLeft, IsFailure, IsOver, acts, at, first_numbers, has_left, is_fault, is_halted, is_memory, holds_number, is_over, is_place, is_root_close}
 use Rattle.run_rules.specs.Work.{RunRecord, Work, most_of, places_by, runs_in_turn, until_by}
-use Rattle.run_laws.specs.EndTests.{end_stops, fault_stops, has_begun, has_cause_to_halt, is_caused, is_last, is_memory_known, is_root_closed, is_shown, is_silenced, is_stopped, may_stop, silence_stops, stops_by_end, stops_by_failure, stops_by_halt, stops_when_silenced}
+use Rattle.run_laws.specs.EndTests.{closes_before, end_stops, end_stops_in_time, fault_stops, has_begun, has_cause_to_halt, is_caused, is_last, is_memory_known, is_root_closed, is_shown, is_silenced, is_stopped, may_stop, silence_stops, stops_by_end, stops_by_failure, stops_by_halt, stops_when_silenced}
 use Rattle.run_laws.specs.Laws.{StopsByEnd, StopsByFailure, StopsWhenSilenced}
-use Rattle.run_laws.proofs.Deciding.{Decides-to, acts_so, all_so, always, and_so, any_so, at_below, at_most, each_some_so, fault_so, first_so, flag, found_so, halted_so, if_so, if_some_so, inner_so, left_so, less, memory_so, not_so, number_so, or_so, over_so, root_so, same_place, same_stream_so, some_so}
+use Rattle.run_laws.proofs.Deciding.{Decides-to, acts_so, after_so, all_so, always, and_so, any_so, at_below, at_most, each_some_so, fault_so, first_so, flag, found_so, halted_so, if_so, if_some_so, inner_so, left_so, less, memory_so, not_so, number_so, or_so, over_so, root_so, same_number, same_place, same_stream_so, some_so}
 
 -- Why a stream may be halted.
 
@@ -34,18 +38,40 @@ silenced_so work c = or_so (is_some c.cut) (holds_number (most_of work) (length 
 pub silence_stops_so : (work : Work) (c : RunRecord) (k : StreamNo) → Decides (silence_stops work c k) (SilenceStops work c k)
 silence_stops_so work c k = and_so (is_silenced work c) (elim (last_stream c) [ Some j ↦ may_stop work (Inner j) k | None ↦ true ]) (silenced_so work c) (if_some_so (last_stream c) (λ j. may_stop work (Inner j) k) (λ j. MayStop work (Inner j) k) (λ j. may_stop_so work (Inner j) k))
 
+told_some : (b : Bool) (x : Exit) → is_some (if b then Some x else None) ≡ b
+told_some true x = refl
+told_some false x = refl
+
+root_close_so : (w : What) → Decides (is_root_close w) ((x : Exit) × (w ≡ Close 0 x))
+root_close_so (Close s x) =
+    let t = told_some (nat_eq s 0) x in let d = same_number s 0 in
+    (λ h. (x, ap (λ n. Close n x) (d.0 (sym t ∙ h))), λ p. let e = p.1 in let q : s ≡ 0 = cc in t ∙ d.1 q)
+root_close_so w = (λ h. absurd (false≢true h), λ p. let e = p.1 in let z : ⊥ = cc in absurd z)
+
+pub closes_before_so : (L : List Event) (j k : StreamNo) → Decides (closes_before L j k) (ClosesBefore L j k)
+closes_before_so L j k = Decides-to (closes_before L j k) (λ f P Q e x is by what. f P Q e is x by what) (λ f P Q e is x by what. f P Q e x is by what)
+    (after_so (λ P e. not (same_stream e.by k && is_root_close e.what) || is_root_closed P j) (λ P e. (x : Exit) → e.by ≡ k → e.what ≡ Close 0 x → NotesClose P j 0)
+    (λ P e. Decides-to (not (same_stream e.by k && is_root_close e.what) || is_root_closed P j) (λ f x by what. f (by, (x, what))) (λ f c. f c.1.0 c.0 c.1.1)
+    (if_so (same_stream e.by k && is_root_close e.what) (is_root_closed P j) (and_so (same_stream e.by k) (is_root_close e.what) (same_stream_so e.by k) (root_close_so e.what)) (root_so P j))) L)
+
 pub fault_stops_so : (work : Work) (c : RunRecord) (k : StreamNo) → Decides (fault_stops work c k) (FaultStops work c k)
-fault_stops_so work c k = Decides-to (fault_stops work c k) (λ f. (f.0, f.1, f.2.0, f.2.1)) (λ f. (f.0, f.1, (f.2, f.3)))
-    (any_so (λ e. is_fault e.how && may_stop work e.who k) (λ e. IsFailure e.how × MayStop work e.who k) (λ e. and_so (is_fault e.how) (may_stop work e.who k) (fault_so e.how) (may_stop_so work e.who k)) c.ends)
+fault_stops_so work c k = Decides-to (fault_stops work c k) (λ f. (f.0, f.1, f.2.0, f.2.1.0, f.2.1.1)) (λ f. (f.0, f.1, (f.2, (f.3, f.4))))
+    (any_so (λ e. is_fault e.how && (may_stop work e.who k && closes_before c.events e.who k)) (λ e. IsFailure e.how × (MayStop work e.who k × ClosesBefore c.events e.who k))
+    (λ e. and_so (is_fault e.how) (may_stop work e.who k && closes_before c.events e.who k) (fault_so e.how) (and_so (may_stop work e.who k) (closes_before c.events e.who k) (may_stop_so work e.who k) (closes_before_so c.events e.who k))) c.ends)
 
 pub end_stops_so : (work : Work) (c : RunRecord) (k : StreamNo) → Decides (end_stops work c k) (EndStops work c k)
 end_stops_so work c k = Decides-to (end_stops work c k) (λ f. (f.0, f.1, f.2.0, f.2.1)) (λ f. (f.0, f.1, (f.2, f.3)))
     (found_so (until_by work k) (λ j. has_left j c.events && may_stop work (Inner j) k) (λ j. HasLeft j c.events × MayStop work (Inner j) k) (λ j. and_so (has_left j c.events) (may_stop work (Inner j) k) (left_so j c.events) (may_stop_so work (Inner j) k)))
 
+pub end_stops_in_time_so : (work : Work) (c : RunRecord) (k : StreamNo) → Decides (end_stops_in_time work c k) (EndStopsInTime work c k)
+end_stops_in_time_so work c k = Decides-to (end_stops_in_time work c k) (λ f. (f.0, f.1, f.2.0, f.2.1.0, f.2.1.1)) (λ f. (f.0, f.1, (f.2, (f.3, f.4))))
+    (found_so (until_by work k) (λ j. has_left j c.events && (may_stop work (Inner j) k && closes_before c.events (Inner j) k)) (λ j. HasLeft j c.events × (MayStop work (Inner j) k × ClosesBefore c.events (Inner j) k))
+    (λ j. and_so (has_left j c.events) (may_stop work (Inner j) k && closes_before c.events (Inner j) k) (left_so j c.events) (and_so (may_stop work (Inner j) k) (closes_before c.events (Inner j) k) (may_stop_so work (Inner j) k) (closes_before_so c.events (Inner j) k))))
+
 pub cause_so : (work : Work) (c : RunRecord) (k : StreamNo) → Decides (has_cause_to_halt work c k) (HasCauseToHalt work c k)
 cause_so work c k =
-    or_so (silence_stops work c k) (c.memory || (fault_stops work c k || end_stops work c k)) (silence_stops_so work c k)
-    (or_so c.memory (fault_stops work c k || end_stops work c k) (flag c.memory) (or_so (fault_stops work c k) (end_stops work c k) (fault_stops_so work c k) (end_stops_so work c k)))
+    or_so (silence_stops work c k) (c.memory || (fault_stops work c k || end_stops_in_time work c k)) (silence_stops_so work c k)
+    (or_so c.memory (fault_stops work c k || end_stops_in_time work c k) (flag c.memory) (or_so (fault_stops work c k) (end_stops_in_time work c k) (fault_stops_so work c k) (end_stops_in_time_so work c k)))
 
 -- Why a stream may fail.
 

@@ -27,13 +27,19 @@ use Rattle.run_rules.specs.Outputs.{IsReported, StartsRunOf, elements_in_pieces,
 use Rattle.run_rules.specs.Run.{IsUnmade, Performs, Ran}
 use Rattle.run_laws.specs.Files.{lines_work, path_a, taker_stops_work}
 use Rattle.run_laws.specs.FiveFiles.{five_work}
+use Rattle.run_rules.specs.Ends.{EndIsCaused}
+use Rattle.run_rules.specs.Work.{RunRecord, Work}
+use Rattle.std.specs.List.{list_all as all}
 use Rattle.run_laws.specs.OneStream.{one_stream_work}
 use Rattle.run_laws.specs.Others.{hello, no_streams, silent_work, stopped_work, u_csv}
 use Rattle.run_laws.specs.Refused.{in_turn_work}
 use Rattle.run_laws.specs.Streams.{InFile, Leaves, file_stream, opener, two_files}
 use Rattle.run_laws.specs.Tables.{a_csv, lookup_work, path_b, t_csv}
-use Rattle.run_laws.specs.Unacceptable.{AreUnacceptable, all_fail, backwards, begins_before_its_turn, begins_behind_its_until, begins_behind_one_unmade, begins_behind_the_last_frame, begins_beside_its_until, both_devices, done_behind_a_fault, ends_swapped, failed_though_written, fault_hidden_by_until, frames_before_their_turn, frames_out_of_turn, given_without_waiting, gives_on_behind_a_fault, gives_on_behind_one_passed_over, half_table, halted_beforehand, halted_by_a_later_end, halted_by_later_memory, halted_though_whole, leased_before_table, leased_for_nobody, line_cut_in_two, looked_up_unopened, lost_file, memory_for_a_missing_table, memory_for_an_until, memory_for_the_last_frame, missing_opened, one_device_for_both, one_of_three_work, opened_twice, passed_over, passed_over_for_nothing, printed_by_nobody, ran_behind_missing_table, ran_over_half_a_table, read_beyond_the_end, read_file_changed, read_for_nobody, same_file_work, second_table_alone, side_by_side_work, silent_copy_work, succeeded_though_left, tabled_work, tables_backwards, three_work, told_two_exits, tried_unbegun, tried_unmade, until_later_work, until_second_work, wanting_at_no_end}
-use Rattle.run_laws.proofs.Deciding.{acts_so}
+use Rattle.run_laws.specs.InTime.{AreCaused, AreCausedInTime, halted_before_the_end, halted_before_the_fault, halted_behind_the_end, halted_behind_the_fault, outer_halted_before_the_fault, outer_halted_behind_the_fault, side_by_side_work, until_beside_work}
+use Rattle.run_laws.specs.Unacceptable.{AreUnacceptable, all_fail, backwards, begins_before_its_turn, begins_behind_its_until, begins_behind_one_unmade, begins_behind_the_last_frame, begins_beside_its_until, both_devices, done_behind_a_fault, ends_swapped, failed_though_written, fault_hidden_by_until, frames_before_their_turn, frames_out_of_turn, given_without_waiting, gives_on_behind_a_fault, gives_on_behind_one_passed_over, half_table, halted_beforehand, halted_by_a_later_end, halted_by_later_memory, halted_though_whole, leased_before_table, leased_for_nobody, line_cut_in_two, looked_up_unopened, lost_file, memory_for_a_missing_table, memory_for_an_until, memory_for_the_last_frame, missing_opened, one_device_for_both, one_of_three_work, opened_twice, passed_over, passed_over_for_nothing, printed_by_nobody, ran_behind_missing_table, ran_over_half_a_table, read_beyond_the_end, read_file_changed, read_for_nobody, same_file_work, second_table_alone, silent_copy_work, succeeded_though_left, tabled_work, tables_backwards, three_work, told_two_exits, tried_unbegun, tried_unmade, until_later_work, until_second_work, wanting_at_no_end}
+use Rattle.run_laws.proofs.Deciding.{acts_so, each_so}
+use Rattle.run_laws.specs.EndTests.{is_caused}
+use Rattle.run_laws.proofs.EndsTested.{caused_so}
 use Rattle.run_laws.proofs.Files.{cut_all, cut_part}
 use Rattle.run_laws.proofs.Housed.{below_two, first_byte, moved, only_one, path_byte}
 use Rattle.run_laws.proofs.Judging.{by_causes, by_exits, by_memory, by_ours, by_pace, by_room, by_shut, by_stops, by_giving, by_turn, no_nil, ran}
@@ -300,4 +306,17 @@ unacceptable = record {
   behind_one_unmade = by_room (three_work 4) begins_behind_one_unmade (no_nil _ _) refl;
   for_an_until = for_an_until_refused;
   for_the_last = by_memory one_of_three_work memory_for_the_last_frame (no_nil _ _) refl;
+  before_the_fault = by_causes side_by_side_work halted_before_the_fault (no_nil _ _) refl;
+  outer_before_the_fault = by_causes side_by_side_work outer_halted_before_the_fault (no_nil _ _) refl;
+  before_the_end = by_causes until_beside_work halted_before_the_end (no_nil _ _) refl;
+}
+
+causes : (work : Work) (c : RunRecord) → all (is_caused work c) c.ends ≡ true → AreCaused work c
+causes work c t = (each_so (is_caused work c) (EndIsCaused work c) (caused_so work c) c.ends).0 t
+
+pub caused_in_time : AreCausedInTime
+caused_in_time = record {
+  fault = causes side_by_side_work halted_behind_the_fault refl;
+  outer_fault = causes side_by_side_work outer_halted_behind_the_fault refl;
+  end = causes until_beside_work halted_behind_the_end refl;
 }

@@ -13,7 +13,7 @@ use Rattle.res_ledger.specs.declared.event.StreamNo.TheVariants.{Outer, Inner}
 use Rattle.res_ledger.specs.declared.event.What.{What}
 use Rattle.res_ledger.specs.declared.event.What.TheVariants.{Cancel, Close}
 use Rattle.res_ledger.specs.declared.event.Event.{Event}
-use Rattle.res_ledger.specs.Judge.{is_leased}
+use Rattle.res_ledger.specs.Judge.{each_after, is_leased}
 use Rattle.res_ledger.specs.Order.{same_exit}
 use Rattle.res_ledger.specs.Own.{closes, own}
 use Rattle.res_ledger.specs.Streams.{by_stream, same_stream}
@@ -22,7 +22,7 @@ use Rattle.device_port.specs.Device.{DeviceTold, Place}
 use Rattle.run_rules.specs.declared.end.EndOf.{EndOf}
 use Rattle.run_rules.specs.Devices.{came_back}
 use Rattle.run_rules.specs.Ends.{act_count, last_stream}
-use Rattle.run_rules.specs.Facts.{acts, first_numbers, has_left, is_fault, is_halted, is_memory, holds_number, is_over, is_place, leased_stream, root_exit}
+use Rattle.run_rules.specs.Facts.{acts, first_numbers, has_left, holds_number, is_fault, is_halted, is_memory, is_over, is_place, is_root_close, leased_stream, root_exit}
 use Rattle.run_rules.specs.Work.{Opener, RunRecord, Work, begun_frames, most_of, places_by, runs_in_turn, until_by}
 
 -- Why a stream may be halted.
@@ -40,17 +40,29 @@ is_silenced work c = is_some c.cut || holds_number (most_of work) (length c.fram
 abbrev pub silence_stops : Work → RunRecord → StreamNo → Bool
 silence_stops work c k = is_silenced work c && elim (last_stream c) [ Some j ↦ may_stop work (Inner j) k | None ↦ true ]
 
--- a stream failed that may stop k
+-- k closed its root
+abbrev pub is_root_closed : List Event → StreamNo → Bool
+is_root_closed L k = has 0 (closes (own k L))
+
+-- wherever k closed its root, j had closed its own before
+abbrev pub closes_before : List Event → StreamNo → StreamNo → Bool
+closes_before L j k = each_after (λ P e. not (same_stream e.by k && is_root_close e.what) || is_root_closed P j) [] L
+
+-- a stream failed that may stop k, before k closed its root
 abbrev pub fault_stops : Work → RunRecord → StreamNo → Bool
-fault_stops work c k = any (λ e. is_fault e.how && may_stop work e.who k) c.ends
+fault_stops work c k = any (λ e. is_fault e.how && (may_stop work e.who k && closes_before c.events e.who k)) c.ends
 
 -- the stream has ended whose end stops k
 abbrev pub end_stops : Work → RunRecord → StreamNo → Bool
 end_stops work c k = elim (until_by work k) [ Some j ↦ has_left j c.events && may_stop work (Inner j) k | None ↦ false ]
 
+-- it had ended before k closed its root
+abbrev pub end_stops_in_time : Work → RunRecord → StreamNo → Bool
+end_stops_in_time work c k = elim (until_by work k) [ Some j ↦ has_left j c.events && (may_stop work (Inner j) k && closes_before c.events (Inner j) k) | None ↦ false ]
+
 -- there is a cause to halt k
 abbrev pub has_cause_to_halt : Work → RunRecord → StreamNo → Bool
-has_cause_to_halt work c k = silence_stops work c k || (c.memory || (fault_stops work c k || end_stops work c k))
+has_cause_to_halt work c k = silence_stops work c k || (c.memory || (fault_stops work c k || end_stops_in_time work c k))
 
 -- Why a stream may fail.
 
@@ -64,10 +76,6 @@ is_shown ds ps h = true
 -- the stream ended by itself or noted something, or it is the outer one
 abbrev pub has_begun : EndOf → List Event → Bool
 has_begun e L = is_over e.how || (acts e.who L || same_stream e.who Outer)
-
--- k closed its root
-abbrev pub is_root_closed : List Event → StreamNo → Bool
-is_root_closed L k = has 0 (closes (own k L))
 
 -- the end comes by its cause, and a stream that has begun closed its root
 abbrev pub is_caused : Work → RunRecord → EndOf → Bool

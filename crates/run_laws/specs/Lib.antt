@@ -10,6 +10,7 @@ pub mod Refused
 pub mod Groups
 pub mod Lists
 pub mod UnfitGroups
+pub mod InTime
 pub mod Unacceptable
 pub mod UnfitLists
 pub mod Untold

@@ -14,6 +14,7 @@ use Rattle.run_rules.specs.Run.{Performs}
 use Rattle.run_rules.specs.Work.{RunRecord, Work}
 use Rattle.run_laws.specs.Files.{file_run, lines_work, path_a, taker_stops, taker_stops_work}
 use Rattle.run_laws.specs.FiveFiles.{five_files, five_devices, five_work, visit}
+use Rattle.run_laws.specs.InTime.{fails, halted_before_the_end, halted_before_the_fault, halts, outer_halted_before_the_fault, side_by_side_work, until_beside_work}
 use Rattle.run_laws.specs.OneStream.{one_stream_work, x_listing}
 use Rattle.run_laws.specs.Others.{copy_work, hello, no_streams, silent_work, stopped, stopped_work, table_files, two_listing, two_tables, u_csv, x_device}
 use Rattle.run_laws.specs.Refused.{in_turn_work, with_events}
@@ -154,9 +155,6 @@ abbrev pub given_without_waiting : RunRecord
 given_without_waiting = three_run ((Outer, Lease 0 0) ∷ (Outer, Lease 1 0) ∷ (Outer, Lease 2 0) ∷ (Outer, Close 0 Succeeded) ∷ (visit 0 ++ (visit 1 ++ visit 2)))
 
 -- two files side by side
-abbrev pub side_by_side_work : Work
-side_by_side_work = two_files (opener [] 4 None) None
-
 abbrev pub both_devices : List DeviceTold
 both_devices = x_device ∷ read_device 1 path_b (codes "y\n") Succeeded ∷ []
 
@@ -248,9 +246,6 @@ second_table_alone = record (run_of table_files table_files (read_device 0 u_csv
 -- Streams that begin in room that wasn't there, and want of memory for nothing.
 
 -- two streams may be open at once, and all three fail, the third one's file being tried though two had failed
-abbrev pub fails : ℕ → List (StreamNo × What)
-fails k = (Inner k, Close 0 Errored) ∷ (Inner k, Cancel k Errored) ∷ []
-
 abbrev pub all_fail : RunRecord
 all_fail = run_of [] [] (missing_device 0 path_a ∷ missing_device 1 path_b ∷ missing_device 2 path_c ∷ []) (ends_of how.Done (how.Fault code.Open ∷ how.Fault code.Open ∷ how.Fault code.Open ∷ []))
     ((Outer, Lease 0 0) ∷ (Outer, Lease 1 0) ∷ (Outer, Lease 2 0) ∷ (Outer, Close 0 Succeeded) ∷ (fails 0 ++ (fails 1 ++ fails 2))) []
@@ -272,9 +267,6 @@ begins_behind_its_until = record (three_run three_events) { frames = frame 1 (co
 -- two streams may be open at once and one frame is printed: the second one prints it, and the third is begun all the same, while the first is open, which is halted as it is
 abbrev pub one_of_three_work : Work
 one_of_three_work = record (three_work 2) { opener = Some (opener [] 2 (Some 1)) }
-
-abbrev pub halts : ℕ → List (StreamNo × What)
-halts k = (Inner k, Acquire k 0) ∷ (Inner k, Close 0 Canceled) ∷ (Inner k, Final k Canceled true) ∷ (Inner k, Cancel k Canceled) ∷ []
 
 abbrev pub begins_behind_the_last_frame : RunRecord
 begins_behind_the_last_frame = run_of three_listing three_listing (used_device 0 (to_read path_a) (codes "x\n") Canceled ∷ read_device 1 path_b (codes "y\n") Succeeded ∷ used_device 2 (to_read path_c) (codes "z\n") Canceled ∷ []) (ends_of how.Done (how.Halted ∷ how.Done ∷ how.Halted ∷ []))
@@ -361,3 +353,6 @@ pub record AreUnacceptable : Type 0 where
   pub behind_one_unmade : ¬ (Performs (three_work 4) begins_behind_one_unmade)
   pub for_an_until : ¬ (Performs stopped_work memory_for_an_until)
   pub for_the_last : ¬ (Performs one_of_three_work memory_for_the_last_frame)
+  pub before_the_fault : ¬ (Performs side_by_side_work halted_before_the_fault)
+  pub outer_before_the_fault : ¬ (Performs side_by_side_work outer_halted_before_the_fault)
+  pub before_the_end : ¬ (Performs until_beside_work halted_before_the_end)

@@ -10,12 +10,12 @@ ghost use Rattle.device_port.specs.Device.{DeviceTold, Place};
 ghost use Rattle.res_ledger.specs.Ledger.{IsLegal};
 ghost use Rattle.res_ledger.specs.declared.event.Event.{Event};
 ghost use Rattle.res_ledger.specs.declared.event.StreamNo.{StreamNo};
-ghost use Rattle.run_laws.specs.EndTests.{begin_in_room, end_stops, fault_stops, has_begun, has_cause_to_halt, has_one_exit, has_stopped_all, is_caused, is_exit_hidden, is_last, is_last_turn, is_memory_known, is_memory_told, is_shown, is_silenced, is_stopped, is_turn, may_stop, prints_behind, silence_stops, stops_by_end, stops_by_failure, stops_when_silenced, was_in, was_open};
+ghost use Rattle.run_laws.specs.EndTests.{begin_in_room, closes_before, end_stops, end_stops_in_time, fault_stops, has_begun, has_cause_to_halt, has_one_exit, has_stopped_all, is_caused, is_exit_hidden, is_last, is_last_turn, is_memory_known, is_memory_told, is_shown, is_silenced, is_stopped, is_turn, may_stop, prints_behind, silence_stops, stops_by_end, stops_by_failure, stops_when_silenced, was_in, was_open};
 ghost use Rattle.run_laws.specs.GivingTests.{gives_all, gives_in_order, is_given_by, lends_tables, takes_turns};
 ghost use Rattle.run_laws.specs.Laws.{StopsByEnd, StopsByFailure, StopsWhenSilenced, TakesTurns, work_of};
 ghost use Rattle.run_laws.specs.LedgerTests.{are_left_alone, begin_in_order, is_ahead, is_leaving_closed, is_ours, is_paced, is_shut, is_untouched, is_within, leases_in_order, never_fall, outer_waits};
 ghost use Rattle.run_rules.specs.Devices.{IsShut};
-ghost use Rattle.run_rules.specs.Ends.{BeginInRoom, EndIsCaused, EndStops, FaultStops, HasBegun, HasCauseToHalt, HasStoppedAll, IsLast, IsLastTurn, IsShown, IsSilenced, IsStopped, IsTurn, MayStop, PrintsBehind, SilenceStops, WasIn, WasOpen};
+ghost use Rattle.run_rules.specs.Ends.{BeginInRoom, ClosesBefore, EndIsCaused, EndStops, EndStopsInTime, FaultStops, HasBegun, HasCauseToHalt, HasStoppedAll, IsLast, IsLastTurn, IsShown, IsSilenced, IsStopped, IsTurn, MayStop, PrintsBehind, SilenceStops, WasIn, WasOpen};
 ghost use Rattle.run_rules.specs.Exits.{HasOneExit, IsExitHidden};
 ghost use Rattle.run_rules.specs.Homes.{AreLeftAlone, IsUntouched};
 ghost use Rattle.run_rules.specs.Memory.{IsWanting};
@@ -34,7 +34,9 @@ pub fn tests_of_causes()
     ensures of_silenced { (o : Option Opener) (ss : List Stream) (c : RunRecord) → Decides (is_silenced (work_of o ss) c) (IsSilenced (work_of o ss) c) }
     ensures of_silence { (o : Option Opener) (ss : List Stream) (c : RunRecord) (k : StreamNo) → Decides (silence_stops (work_of o ss) c k) (SilenceStops (work_of o ss) c k) }
     ensures of_fault { (o : Option Opener) (ss : List Stream) (c : RunRecord) (k : StreamNo) → Decides (fault_stops (work_of o ss) c k) (FaultStops (work_of o ss) c k) }
+    ensures of_before { (L : List Event) (j k : StreamNo) → Decides (closes_before L j k) (ClosesBefore L j k) }
     ensures of_end { (o : Option Opener) (ss : List Stream) (c : RunRecord) (k : StreamNo) → Decides (end_stops (work_of o ss) c k) (EndStops (work_of o ss) c k) }
+    ensures of_time { (o : Option Opener) (ss : List Stream) (c : RunRecord) (k : StreamNo) → Decides (end_stops_in_time (work_of o ss) c k) (EndStopsInTime (work_of o ss) c k) }
     ensures of_cause { (o : Option Opener) (ss : List Stream) (c : RunRecord) (k : StreamNo) → Decides (has_cause_to_halt (work_of o ss) c k) (HasCauseToHalt (work_of o ss) c k) }
 {}
 

@@ -1,5 +1,6 @@
 //! Runs with one thing wrong each, and runs that no user would accept.
 ghost use Rattle.run_laws.specs.FiveFiles.{five_work};
+ghost use Rattle.run_laws.specs.InTime.{AreCausedInTime};
 ghost use Rattle.run_laws.specs.OneStream.{one_stream_work};
 ghost use Rattle.run_laws.specs.Others.{copy_work, no_streams, silent_work, stopped_work, u_csv};
 ghost use Rattle.run_laws.specs.Refused.{another_number, another_value, begins_behind_a_failed_write, begins_behind_a_fault, begins_in_silence, begins_unwanted, cancel_told_otherwise, canceled_by_another, crossed_pairs, cut_behind_the_last, done_without_close, fault_of_no_device, first_table_first, halted_by_a_later_one, in_turn_work, invented_scope, lease_by_a_stream, leased_table_ended, left_before_closing, next_table_tried, nobody_given, one_frame_too_many, one_frame_work, other_bytes_stored, root_never_closed, root_told_otherwise, second_device, side_left_open, stolen_row, stopped_by_nothing, stopped_one_begins, tables_never_acquired, third_pair, third_too_early, two_open, without_lease};
@@ -95,6 +96,11 @@ pub fn unacceptable()
 /// Runs in which an act on a device failed, and that end as if it hadn't.
 pub fn untold_failures()
     ensures { AreUntold }
+{}
+
+/// Of those in which a stream is halted for what comes later, each has its causes with the other order.
+pub fn caused_in_time()
+    ensures { AreCausedInTime }
 {}
 
 /// Runs of groups of which each is all right but for one thing.

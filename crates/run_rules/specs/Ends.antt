@@ -11,6 +11,7 @@ use Rattle.chunk_core.specs.declared.code.How.TheVariants as how
 use Rattle.chunk_core.specs.Texts.{Frame}
 use Rattle.res_ledger.specs.declared.event.StreamNo.{StreamNo}
 use Rattle.res_ledger.specs.declared.event.StreamNo.TheVariants.{Outer, Inner}
+use Rattle.res_ledger.specs.declared.event.What.TheVariants.{Close}
 use Rattle.res_ledger.specs.declared.event.Event.{Event}
 use Rattle.res_ledger.specs.Ledger.{IsLeased, NotesClose}
 use Rattle.res_ledger.specs.Whole.{is_cancel}
@@ -40,17 +41,25 @@ IsSilenced work c = (c.cut ≢ None) ⊎ (most_of work ≡ Some (length c.frames
 abbrev pub SilenceStops : Work → RunRecord → StreamNo → Type 0
 SilenceStops work c k = IsSilenced work c × IfSome (last_stream c) (λ j. MayStop work (Inner j) k)
 
--- a stream failed that may stop k
+-- wherever k closed its root, j had closed its own before
+abbrev pub ClosesBefore : List Event → StreamNo → StreamNo → Type 0
+ClosesBefore L j k = (P Q : List Event) (e : Event) (x : Exit) → L ≡ P ++ e ∷ Q → e.by ≡ k → e.what ≡ Close 0 x → NotesClose P j 0
+
+-- a stream failed that may stop k, before k closed its root
 abbrev pub FaultStops : Work → RunRecord → StreamNo → Type 0
-FaultStops work c k = (e : EndOf) × IsAmong e c.ends × IsFailure e.how × MayStop work e.who k
+FaultStops work c k = (e : EndOf) × IsAmong e c.ends × IsFailure e.how × MayStop work e.who k × ClosesBefore c.events e.who k
 
 -- the stream has ended whose end stops k
 abbrev pub EndStops : Work → RunRecord → StreamNo → Type 0
 EndStops work c k = (j : ℕ) × (until_by work k ≡ Some j) × HasLeft j c.events × MayStop work (Inner j) k
 
--- why a stream may be halted: no more is printed, memory was wanting, a stream failed, or the one has ended whose end stops it
+-- it had ended before k closed its root
+abbrev pub EndStopsInTime : Work → RunRecord → StreamNo → Type 0
+EndStopsInTime work c k = (j : ℕ) × (until_by work k ≡ Some j) × HasLeft j c.events × MayStop work (Inner j) k × ClosesBefore c.events (Inner j) k
+
+-- why a stream may be halted: no more is printed, memory was wanting, a stream failed before it closed its root, or the one had ended by then whose end stops it
 abbrev pub HasCauseToHalt : Work → RunRecord → StreamNo → Type 0
-HasCauseToHalt work c k = SilenceStops work c k ⊎ (c.memory ≡ true) ⊎ FaultStops work c k ⊎ EndStops work c k
+HasCauseToHalt work c k = SilenceStops work c k ⊎ (c.memory ≡ true) ⊎ FaultStops work c k ⊎ EndStopsInTime work c k
 
 -- Why a stream may fail.
 

@@ -40,6 +40,7 @@ mod finalize;
 pub mod laws;
 mod leases;
 mod leaving;
+pub mod marks;
 pub mod room;
 mod rows;
 mod tear;

@@ -38,7 +38,7 @@ use std::alloc::{AllocError, Global};
 /// opened. The tree's seat must keep room for the events that close all that is open: `owed` of them.
 #[derive(Drop)]
 pub struct Tree<S: RowSeat> {
-    seat: S,
+    pub(crate) seat: S,
     branches: Vec<Branch>,
     acquisitions: Vec<AcquiredRow>,
     shelf: Vec<Spent<S::Pay>>,

@@ -9,7 +9,7 @@ use Rattle.chunk_core.specs.declared.code.How.TheVariants as how
 use Rattle.chunk_core.specs.declared.load.Load.{Load}
 use Rattle.channel_bounded.specs.declared.message.Msg.{Msg}
 use Rattle.device_port.specs.Device.{DeviceTold}
-use Rattle.interrupt_ctx.specs.declared.why.Why.{Why}
+use Rattle.interrupt_ctx.specs.declared.why.Stop.{Stop}
 use Rattle.pull_turns.specs.Around.{IsClosedWith}
 use Rattle.pull_turns.specs.Piping.{StateMeaning}
 use Rattle.pull_turns.specs.declared.turn.Turn.{Turn}
@@ -48,8 +48,8 @@ module _ {V F : Type 0} (told : V → DeviceTold) (P : Values → StateMeaning F
   turn_over a b (turn.Fault c) k h e = record { how = how.Fault c; ended = k.how; shut = k.turns.shut (λ n. n); exit = k.turns.closed }
 
   -- where the stepper has ended each scope and each device is closed
-  pub obeyed_over : (a b : Stepping V F) (found : Option Why) (load : Option Load) → ObeysFound P told found a b load → (h : How) → b.how ≡ Some h → IsOver told b
-  obeyed_over a b (Some cause) load o h e = halted_over a b o.0
+  pub obeyed_over : (a b : Stepping V F) (found : Option Stop) (load : Option Load) → ObeysFound P told found a b load → (h : How) → b.how ≡ Some h → IsOver told b
+  obeyed_over a b (Some stop) load o h e = halted_over a b o.0
   obeyed_over a b None load o h e = ⊎_elim (λ k. turn_over a b k.0 k.1 h e) (λ k. halted_over k.0 b k.2) o
 
   -- its tree is that of a stream that has a lease on the rows T

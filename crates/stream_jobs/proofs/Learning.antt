@@ -13,35 +13,45 @@ use Rattle.device_port.specs.Device.{DeviceTold}
 use Rattle.interrupt_ctx.specs.Ends.{HasFound, HasSet, SeatSeen}
 use Rattle.interrupt_ctx.specs.Views.{interruption, noted}
 use Rattle.interrupt_ctx.specs.declared.view.Interruption.{Interruption}
+use Rattle.interrupt_ctx.specs.declared.why.Stop.{Stop}
 use Rattle.interrupt_ctx.specs.declared.why.Why.{Why}
 use Rattle.interrupt_ctx.specs.declared.why.Why.TheVariants as why
 use Rattle.pull_turns.specs.Moves.{how_of}
 use Rattle.pull_turns.specs.Piping.{StateMeaning}
 use Rattle.pull_turns.specs.declared.turn.Turn.{Turn}
 use Rattle.pull_turns.specs.declared.turn.Turn.TheVariants as turn
+use Rattle.pull_stepper.specs.Behind.{ClosesRootBehind}
 use Rattle.pull_stepper.specs.Stepping.{Stepping, TakesTurn, stopped_by}
 use Rattle.stream_jobs.specs.Learned.{HasLearned, HasStoppedRun}
 use Rattle.stream_jobs.specs.Steps.{Interrupts, LooksOnce, ObeysFound, StopsRun, load_in}
 
 -- what was seen stays so where more is noted
-noted_keeps : (seen : List Interruption) (context : ℕ) (found : Option Why) (x : Interruption) → IsAmong x seen → IsAmong x (noted seen context found)
+noted_keeps : (seen : List Interruption) (context : ℕ) (found : Option Stop) (x : Interruption) → IsAmong x seen → IsAmong x (noted seen context found)
 noted_keeps seen context None x m = m
 noted_keeps seen context (Some w) x m = among_left (interruption context w ∷ []) m
 
--- the code that a look found was noted
-found_noted : (seen : List Interruption) (context : ℕ) (own root : Option Why) (cause : Why) → option_or own root ≡ Some cause
-    → (there : Why) × (IsAmong (interruption 0 there) (noted (noted seen context own) 0 root) ⊎ IsAmong (interruption context there) (noted (noted seen context own) 0 root))
-found_noted seen context (Some w) root cause e = (w, inr (noted_keeps (noted seen context (Some w)) 0 root (interruption context w) (among_last seen (interruption context w))))
-found_noted seen context None (Some w) cause e = (w, inl (among_last seen (interruption 0 w)))
-found_noted seen context None None cause e = absurd (let f : None ≡ Some cause = e in cc)
+-- the stop that a look found was noted
+found_noted : (seen : List Interruption) (context : ℕ) (own root : Option Stop) (stop : Stop) → option_or own root ≡ Some stop
+    → IsAmong (interruption 0 stop) (noted (noted seen context own) 0 root) ⊎ IsAmong (interruption context stop) (noted (noted seen context own) 0 root)
+found_noted seen context (Some w) root stop e =
+    let q : w ≡ stop = cc in
+    inr (subst (λ x. IsAmong (interruption context x) (noted (noted seen context (Some w)) 0 root)) q (noted_keeps (noted seen context (Some w)) 0 root (interruption context w) (among_last seen (interruption context w))))
+found_noted seen context None (Some w) stop e =
+    let q : w ≡ stop = cc in
+    inl (subst (λ x. IsAmong (interruption 0 x) (noted seen 0 (Some w))) q (among_last seen (interruption 0 w)))
+found_noted seen context None None stop e = absurd (let f : None ≡ Some stop = e in cc)
 
--- a code that was found in the context of stream k or in that of the whole run
+-- the seat has found the stop in the context of stream k or in that of the whole run
+abbrev pub HasSeen : ℕ → SeatSeen → Stop → Type 0
+HasSeen k s stop = IsAmong (interruption 0 stop) s.view.seen ⊎ IsAmong (interruption (1 + k) stop) s.view.seen
+
+-- a stop that was found there
 abbrev pub FoundCode : ℕ → SeatSeen → Type 0
-FoundCode k s = (there : Why) × (IsAmong (interruption 0 there) s.view.seen ⊎ IsAmong (interruption (1 + k) there) s.view.seen)
+FoundCode k s = (there : Stop) × HasSeen k s there
 
 module _ (k : ℕ) (first old looked : SeatSeen) (look : LooksOnce (1 + k) old looked) where
-  pub look_finds : (cause : Why) → option_or looked.view.last.own looked.view.last.root ≡ Some cause → FoundCode k looked
-  look_finds cause e = subst (FoundCode k) (sym look) (found_noted old.view.seen (1 + k) looked.view.last.own looked.view.last.root cause e)
+  pub look_finds : (stop : Stop) → option_or looked.view.last.own looked.view.last.root ≡ Some stop → HasSeen k looked stop
+  look_finds stop e = subst (λ (s : SeatSeen). HasSeen k s stop) (sym look) (found_noted old.view.seen (1 + k) looked.view.last.own looked.view.last.root stop e)
 
   -- a look sets nothing, and what was seen stays so
   pub look_learns : HasLearned k first old None → HasLearned k first looked None
@@ -59,15 +69,15 @@ module _ (k : ℕ) (first old new : SeatSeen) (l : HasLearned k first old None) 
   -- a seat that has set nothing sets or finds the whole run interrupted
   stopped_run : (cause : Why) → StopsRun old new cause → HasStoppedRun new.view cause
   stopped_run cause t = ⊎_elim
-      (λ (e : HasSet old new 0 cause).
-      subst (λ (s : SeatSeen). HasStoppedRun s.view cause) (sym e) (record {
+      (λ (e : (stop : Stop) × (stop.why ≡ cause) × HasSet old new 0 stop).
+      subst (λ (s : SeatSeen). HasStoppedRun s.view cause) (sym e.2) (record {
         only = λ x m. ⊎_elim
             (λ o. absurd (among_nil (subst (λ xs. IsAmong x xs) l.set o)))
-            (λ o. ⊎_elim (λ q. q) (λ n. absurd (among_nil n)) (among_cons o))
-            (among_append x old.view.set (interruption 0 cause ∷ []) m);
-        known = (cause, inl (among_last old.view.set (interruption 0 cause)));
+            (λ o. ⊎_elim (λ q. subst (λ (y : Interruption). (y.context ≡ 0) × (y.stop.why ≡ cause)) (sym q) (refl, e.1)) (λ n. absurd (among_nil n)) (among_cons o))
+            (among_append x old.view.set (interruption 0 e.0 ∷ []) m);
+        known = (e.0, inl (among_last old.view.set (interruption 0 e.0)));
       }))
-      (λ (f : (there : Why) × HasFound old new 0 there).
+      (λ (f : (there : Stop) × HasFound old new 0 there).
       subst (λ (s : SeatSeen). HasStoppedRun s.view cause) (sym f.1) (record {
         only = λ x m. absurd (among_nil (subst (λ xs. IsAmong x xs) l.set m));
         known = (f.0, inr (among_last old.view.seen (interruption 0 f.0)));
@@ -77,8 +87,8 @@ module _ (k : ℕ) (first old new : SeatSeen) (l : HasLearned k first old None) 
   -- it stays a seat of its board, and what it saw stays so
   stop_keeps : (cause : Why) → StopsRun old new cause → (new.board ≡ old.board) × (new.view.first ≡ old.view.first) × ((x : Interruption) → IsAmong x old.view.seen → IsAmong x new.view.seen)
   stop_keeps cause t = ⊎_elim
-      (λ (e : HasSet old new 0 cause). (ap (λ s. s.board) e, ap (λ s. s.view.first) e, λ x m. subst (λ (s : SeatSeen). IsAmong x s.view.seen) (sym e) m))
-      (λ (f : (there : Why) × HasFound old new 0 there).
+      (λ (e : (stop : Stop) × (stop.why ≡ cause) × HasSet old new 0 stop). (ap (λ s. s.board) e.2, ap (λ s. s.view.first) e.2, λ x m. subst (λ (s : SeatSeen). IsAmong x s.view.seen) (sym e.2) m))
+      (λ (f : (there : Stop) × HasFound old new 0 there).
       (ap (λ s. s.board) f.1, ap (λ s. s.view.first) f.1, λ x m. subst (λ (s : SeatSeen). IsAmong x s.view.seen) (sym f.1) (noted_keeps old.view.seen 0 (Some f.0) x m)))
       t
 
@@ -103,17 +113,17 @@ turn_halts_none turn.Quiet e = cc
 turn_halts_none turn.Done e = cc
 turn_halts_none (turn.Fault c) e = cc
 
--- a stepper that is halted where no memory was wanting, was halted for a cause that was found
-pub halted_for : {V F : Type 0} (P : Values → StateMeaning F) (told : V → DeviceTold) (a b : Stepping V F) (found : Option Why) (load : Option Load) → ObeysFound P told found a b load → b.how ≡ Some how.Halted → (cause : Why) × (found ≡ Some cause)
-halted_for P told a b (Some cause) load o e = (cause, refl)
+-- a stepper that is halted where no memory was wanting, was halted for a stop that was found, behind the front that this names
+pub halted_for : {V F : Type 0} (P : Values → StateMeaning F) (told : V → DeviceTold) (a b : Stepping V F) (found : Option Stop) (load : Option Load) → ObeysFound P told found a b load → b.how ≡ Some how.Halted → (stop : Stop) × (found ≡ Some stop) × ClosesRootBehind b.site.tree.seat stop.at
+halted_for P told a b (Some stop) load o e = (stop, refl, o.2)
 halted_for P told a b None load o e = absurd (⊎_elim
     (λ k. turn_halts_none k.0 (sym k.1.how ∙ e))
     (λ k. let f : Some how.Memory ≡ Some how.Halted = sym (k.2.how ∙ ap (λ m. Some (stopped_by m)) k.1.memory) ∙ e in cc)
     o)
 
 -- a load that a look brought has elements
-pub load_full : {V F : Type 0} (P : Values → StateMeaning F) (told : V → DeviceTold) (a b : Stepping V F) (found : Option Why) (load : Option Load) → ObeysFound P told found a b load → IfSome load (λ l. 0 < length (elements l))
-load_full P told a b (Some cause) load o = subst (λ x. IfSome x (λ l. 0 < length (elements l))) (sym o.1) tt
+pub load_full : {V F : Type 0} (P : Values → StateMeaning F) (told : V → DeviceTold) (a b : Stepping V F) (found : Option Stop) (load : Option Load) → ObeysFound P told found a b load → IfSome load (λ l. 0 < length (elements l))
+load_full P told a b (Some stop) load o = subst (λ x. IfSome x (λ l. 0 < length (elements l))) (sym o.1) tt
 load_full P told a b None load o = ⊎_elim
     (λ k. subst (λ x. IfSome x (λ l. 0 < length (elements l))) (sym k.2) (given_full k.0 k.1))
     (λ k. subst (λ x. IfSome x (λ l. 0 < length (elements l))) (sym k.3) tt)

@@ -7,3 +7,4 @@ pub mod Working
 pub mod Unmade
 pub mod Others
 pub mod Threads
+pub mod Placing

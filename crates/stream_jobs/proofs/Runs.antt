@@ -9,7 +9,7 @@ use Rattle.chunk_core.specs.declared.code.How.TheVariants as how
 use Rattle.chunk_core.specs.declared.load.Load.{Load}
 use Rattle.chunk_core.proofs.Each.{each_snoc}
 use Rattle.device_port.specs.Device.{DeviceTold}
-use Rattle.interrupt_ctx.specs.declared.why.Why.{Why}
+use Rattle.interrupt_ctx.specs.declared.why.Stop.{Stop}
 use Rattle.pull_turns.specs.Around.{Affords, Around}
 use Rattle.pull_turns.specs.Led.{CanBeCut, Led, TouchesOnly, Turns}
 use Rattle.pull_turns.specs.Piping.{StateMeaning}
@@ -161,16 +161,16 @@ module _ {V F : Type 0} (told : V → DeviceTold) (P : Values → StateMeaning F
     halted_how h = h.how ∙ ap (λ x. Some (stopped_by x)) g.can.memory
 
     -- where it may go on it has given what it gave before, and the load that came
-    pub obeyed_on : (found : Option Why) (load : Option Load) → ObeysFound P told found a b load → b.how ≡ None → HasGiven told P w b (loads ++ held load)
-    obeyed_on (Some cause) load o n = absurd (none_is_not_some b.how how.Halted n (halted_how o.0))
+    pub obeyed_on : (found : Option Stop) (load : Option Load) → ObeysFound P told found a b load → b.how ≡ None → HasGiven told P w b (loads ++ held load)
+    obeyed_on (Some stop) load o n = absurd (none_is_not_some b.how how.Halted n (halted_how o.0))
     obeyed_on None load o n = ⊎_elim
         (λ k. subst (λ x. HasGiven told P w b (loads ++ held x)) (sym k.2) (turn_on k.0 k.1 n))
         (λ k. absurd (none_is_not_some b.how how.Memory n (wanted_how k.0 k.1 k.2)))
         o
 
     -- where it has ended, what it gave is a run with that end
-    pub obeyed_ends : (found : Option Why) (load : Option Load) → ObeysFound P told found a b load → (h : How) → b.how ≡ Some h → HasRun told P w b h loads
-    obeyed_ends (Some cause) load o h e = subst (λ x. HasRun told P w b x loads) (same_end b.how how.Halted h (halted_how o.0) e) (halted_ends o.0)
+    pub obeyed_ends : (found : Option Stop) (load : Option Load) → ObeysFound P told found a b load → (h : How) → b.how ≡ Some h → HasRun told P w b h loads
+    obeyed_ends (Some stop) load o h e = subst (λ x. HasRun told P w b x loads) (same_end b.how how.Halted h (halted_how o.0) e) (halted_ends o.0)
     obeyed_ends None load o h e = ⊎_elim
         (λ k. turn_ends k.0 k.1 h e)
         (λ k. subst (λ x. HasRun told P w b x loads) (same_end b.how how.Memory h (wanted_how k.0 k.1 k.2) e) (wanting_ends k.0 k.1 k.2))

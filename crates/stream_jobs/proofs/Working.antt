@@ -16,7 +16,7 @@ use Rattle.stream_jobs.specs.declared.running.Stage.{Stage}
 use Rattle.stream_jobs.specs.Jobs.{IsJob, IsOver, JobSeen}
 use Rattle.stream_jobs.specs.Learned.{HasLearned}
 use Rattle.stream_jobs.specs.Messages.{IsFullMessage, IsNews, end_message, held, load_message}
-use Rattle.stream_jobs.specs.Running.{Origin, Stands, ended_at}
+use Rattle.stream_jobs.specs.Running.{Origin, StagePlaces, Stands, ended_at}
 use Rattle.stream_jobs.specs.Steps.{Interrupts, MovesOn}
 
 -- the stream of the first message, where there is one
@@ -61,8 +61,8 @@ module _ {S V F D T : Type 0} (view : S → View V) (values : T → Values) (tol
 
   -- a message more is to be said, and nothing waited
   pub job_on : (a b : Job S V F V D T) (s : Stage S V F V D T) → IsJob view values told P w a → a.waiting ≡ None → b.sender ≡ a.sender → b.stream ≡ a.stream → b.stage ≡ Some s → IfSome b.waiting (λ m. m.stream ≡ w.stream) → IfSome b.waiting IsFullMessage
-      → Stands told P view values w s ((a.sender.sent ++ held a.waiting) ++ held b.waiting) → HasLearned w.stream w.board b.board (ended_at s) → IsJob view values told P w b
-  job_on a b s h none same number is waits full stands learned =
+      → Stands told P view values w s ((a.sender.sent ++ held a.waiting) ++ held b.waiting) → HasLearned w.stream w.board b.board (ended_at s) → StagePlaces view w.stream b.board.view s → IsJob view values told P w b
+  job_on a b s h none same number is waits full stands learned places =
       let before : a.sender.sent ++ held a.waiting ≡ b.sender.sent = ap (λ o. a.sender.sent ++ held o) none ∙ (append-nil a.sender.sent ∙ sym (ap (λ x. x.sent) same)) in
       record {
         number = number ∙ h.number;
@@ -73,6 +73,7 @@ module _ {S V F D T : Type 0} (view : S → View V) (values : T → Values) (tol
         stage_is = is;
         stands = subst (λ xs. Stands told P view values w s (xs ++ held b.waiting)) before stands;
         learned = learned;
+        places = places;
       }
 
   -- the same was said
@@ -86,14 +87,15 @@ module _ {S V F D T : Type 0} (view : S → View V) (values : T → Values) (tol
     stage_is = stage_same ∙ h.stage_is;
     stands = subst (λ xs. Stands told P view values w h.stage xs) (sym says) h.stands;
     learned = subst (λ s. HasLearned w.stream w.board s (ended_at h.stage)) (sym board) h.learned;
+    places = subst (λ (s : SeatSeen). StagePlaces view w.stream s.view h.stage) (sym board) h.places;
   }
 
 -- the seat stays at its board
 interrupts_board : (h : How) (u v : SeatSeen) → Interrupts h u v → v.board ≡ u.board
 interrupts_board how.Done u v e = ap (λ x. x.board) e
 interrupts_board how.Halted u v e = ap (λ x. x.board) e
-interrupts_board (how.Fault c) u v e = ⊎_elim (λ s. ap (λ x. x.board) s) (λ f. ap (λ x. x.board) f.1) e
-interrupts_board how.Memory u v e = ⊎_elim (λ s. ap (λ x. x.board) s) (λ f. ap (λ x. x.board) f.1) e
+interrupts_board (how.Fault c) u v e = ⊎_elim (λ s. ap (λ x. x.board) s.2) (λ f. ap (λ x. x.board) f.1) e
+interrupts_board how.Memory u v e = ⊎_elim (λ s. ap (λ x. x.board) s.2) (λ f. ap (λ x. x.board) f.1) e
 
 pub moves_board : {V F : Type 0} (P : Values → StateMeaning F) (told : V → DeviceTold) (k : ℕ) (s : Stepping V F) (running : Option (Stepping V F)) (u v : SeatSeen) (fresh : List Msg) → MovesOn P told k s running u v fresh → v.board ≡ u.board
 moves_board P told k s running u v fresh m =

@@ -16,7 +16,8 @@ use Rattle.stream_jobs.specs.declared.job.JobTurn.TheVariants.{More, Blocked, Ov
 use Rattle.stream_jobs.specs.declared.running.Stage.{Stage}
 use Rattle.stream_jobs.specs.Learned.{HasLearned}
 use Rattle.stream_jobs.specs.Messages.{IsFullMessage, held}
-use Rattle.stream_jobs.specs.Running.{FitsStage, IsEndedJob, Origin, Stands, ended_at, running_at}
+use Rattle.stream_jobs.specs.Places.{HasPlaces}
+use Rattle.stream_jobs.specs.Running.{FitsStage, IsEndedJob, Origin, StagePlaces, Stands, ended_at, running_at}
 use Rattle.stream_jobs.specs.Steps.{MovesOn}
 
 -- its stepper, unless that has ended, its seat at the board, its sender, and the message that waits for room in the queue
@@ -88,7 +89,7 @@ module _ {S V F D T : Type 0} (view : S → View V) (values : T → Values) wher
   seen_job j = record { running = running_in j.stage; board = j.board; sender = j.sender; waiting = j.waiting }
 
   module _ (told : V → DeviceTold) where
-    -- it is the job of this origin: what was said are the texts of loads of a run, and its end, where it has ended; and its seat at the board has set and seen what goes with that
+    -- it is the job of this origin: what was said are the texts of loads of a run, and its end, where it has ended; and its seat at the board has set and seen what goes with that, where it is to
     pub record IsJob (P : Values → StateMeaning F) (w : Origin V F) (j : Job S V F V D T) : Type 0 where
       pub number : j.stream ≡ w.stream
       pub sender : j.sender.stream ≡ w.stream
@@ -98,13 +99,15 @@ module _ {S V F D T : Type 0} (view : S → View V) (values : T → Values) wher
       pub stage_is : j.stage ≡ Some stage
       pub stands : Stands told P view values w stage (j.sender.sent ++ held j.waiting)
       pub learned : HasLearned w.stream w.board j.board (ended_at stage)
+      pub places : StagePlaces view w.stream j.board.view stage
 
 module _ {S V F : Type 0} (view : S → View V) (told : V → DeviceTold) (P : Values → StateMeaning F) where
-  -- what is left of a job: the texts of the loads of a run were sent, and then its end; and its seat at the board has set and seen what goes with that
+  -- what is left of a job: the texts of the loads of a run were sent, and then its end; and its seat at the board has set and seen what goes with that, where it is to
   pub record EndsJob (w : Origin V F) (e : JobEnd S V) : Type 0 where
     pub sender : e.sender.stream ≡ w.stream
     pub left : IsEndedJob told P w (view e.seat) e.shelf e.unopened e.how e.sender.sent
     pub learned : HasLearned w.stream w.board e.board (Some e.how)
+    pub places : HasPlaces w.stream (view e.seat) e.board.view e.how
 
 -- its tree and devices, or its seat, fit the desk
 abbrev pub FitsJob : {S V F D T : Type 0} → (S → View V) → (V → DeviceTold) → (S → D → Type 0) → Job S V F V D T → D → Type 0

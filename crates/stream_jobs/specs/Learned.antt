@@ -7,18 +7,19 @@ use Rattle.interrupt_ctx.specs.Ends.{SeatSeen}
 use Rattle.interrupt_ctx.specs.Views.{Knows, interruption}
 use Rattle.interrupt_ctx.specs.declared.view.Interruption.{Interruption}
 use Rattle.interrupt_ctx.specs.declared.view.View.{View}
+use Rattle.interrupt_ctx.specs.declared.why.Stop.{Stop}
 use Rattle.interrupt_ctx.specs.declared.why.Why.{Why}
 use Rattle.interrupt_ctx.specs.declared.why.Why.TheVariants as why
 
 -- the whole run is interrupted: the seat has set that for this cause and nothing else, or it has found a code there
 pub record HasStoppedRun (v : View) (cause : Why) : Type 0 where
-  pub only : (x : Interruption) → IsAmong x v.set → x ≡ interruption 0 cause
-  pub known : (there : Why) × Knows v 0 there
+  pub only : (x : Interruption) → IsAmong x v.set → (x.context ≡ 0) × (x.stop.why ≡ cause)
+  pub known : (there : Stop) × Knows v 0 there
 
 -- the seat has set nothing, and found a code in context 0 or in that of stream k
 pub record HasFoundCode (k : ℕ) (v : View) : Type 0 where
   pub none : v.set ≡ []
-  pub found : (there : Why) × (IsAmong (interruption 0 there) v.seen ⊎ IsAmong (interruption (1 + k) there) v.seen)
+  pub found : (there : Stop) × (IsAmong (interruption 0 there) v.seen ⊎ IsAmong (interruption (1 + k) there) v.seen)
 
 -- what the seat of stream k has set, and what it knows, by how the stepper has ended, if it has
 abbrev pub HasSetFor : ℕ → View → Option How → Type 0

@@ -2,6 +2,7 @@ pub mod Messages
 pub mod Steps
 pub mod Learned
 pub mod Leaving
+pub mod Places
 pub mod Running
 pub mod Unmade
 pub mod Jobs

@@ -7,6 +7,7 @@ use Rattle.chunk_core.specs.declared.load.Load.{Load}
 use Rattle.channel_bounded.specs.declared.message.Msg.{Msg}
 use Rattle.device_port.specs.Device.{DeviceTold}
 use Rattle.interrupt_ctx.specs.Ends.{SeatSeen}
+use Rattle.interrupt_ctx.specs.declared.view.View.{View as BoardView}
 use Rattle.pull_turns.specs.Around.{Goes}
 use Rattle.pull_turns.specs.Led.{Led, end_of}
 use Rattle.pull_turns.specs.Piping.{StateMeaning}
@@ -26,6 +27,7 @@ use Rattle.stream_jobs.specs.declared.running.Stage.{Stage}
 use Rattle.stream_jobs.specs.declared.running.Stage.TheVariants as stage
 use Rattle.stream_jobs.specs.Leaving.{Leaves}
 use Rattle.stream_jobs.specs.Messages.{AreFilled, AreTextsOf, end_message, load_messages}
+use Rattle.stream_jobs.specs.Places.{HasPlaces}
 
 -- what a job is of: its stream, the rows of its lease, and its stepper and its seat at the board as they were at first
 pub record Origin (V F : Type 0) : Type 0 where
@@ -92,6 +94,11 @@ module _ {V F : Type 0} (told : V → DeviceTold) where
   abbrev pub FitsStage : {S D T : Type 0} → (S → View V) → (S → D → Type 0) → Stage S V F V D T → D → Type 0
   FitsStage view fits (stage.Running r) d = Works view told fits r.stepper d
   FitsStage view fits (stage.Left l) d = fits l.seat d
+
+-- where it has left, what it set and obeyed lies where it is to
+abbrev pub StagePlaces : {S V F D T : Type 0} → (S → View V) → ℕ → BoardView → Stage S V F V D T → Type 0
+StagePlaces view k board (stage.Running r) = Unit {0}
+StagePlaces view k board (stage.Left l) = HasPlaces k (view l.seat) board l.how
 
 -- its stepper, unless that has ended
 abbrev pub running_at : {S V F D T : Type 0} → (S → View V) → (T → Values) → Stage S V F V D T → Option (Stepping V F)

@@ -10,11 +10,13 @@ use Rattle.device_port.specs.Device.{DeviceTold}
 use Rattle.interrupt_ctx.specs.Ends.{HasFound, HasSet, SeatSeen}
 use Rattle.interrupt_ctx.specs.Views.{after_look}
 use Rattle.interrupt_ctx.specs.declared.view.Look.{Look}
+use Rattle.interrupt_ctx.specs.declared.why.Stop.{Stop}
 use Rattle.interrupt_ctx.specs.declared.why.Why.{Why}
 use Rattle.interrupt_ctx.specs.declared.why.Why.TheVariants as why
 use Rattle.pull_turns.specs.Piping.{StateMeaning}
 use Rattle.pull_turns.specs.declared.turn.Turn.{Turn}
 use Rattle.pull_turns.specs.declared.turn.Turn.TheVariants as turn
+use Rattle.pull_stepper.specs.Behind.{ClosesRootBehind}
 use Rattle.pull_stepper.specs.Stepping.{Halts, Stepping, TakesTurn, Wants}
 use Rattle.stream_jobs.specs.Messages.{IsNews}
 
@@ -31,7 +33,7 @@ LooksOnce context old new = new ≡ record old { view = after_look old.view cont
 
 -- the seat has interrupted the whole run for this cause, or found that it was interrupted before
 abbrev pub StopsRun : SeatSeen → SeatSeen → Why → Type 0
-StopsRun old new cause = HasSet old new 0 cause ⊎ ((there : Why) × HasFound old new 0 there)
+StopsRun old new cause = ((stop : Stop) × (stop.why ≡ cause) × HasSet old new 0 stop) ⊎ ((there : Stop) × HasFound old new 0 there)
 
 -- the whole run is interrupted by an end that is a fault or want of memory, and by no other
 abbrev pub Interrupts : How → SeatSeen → SeatSeen → Type 0
@@ -45,15 +47,15 @@ module _ {V F : Type 0} (P : Values → StateMeaning F) (told : V → DeviceTold
   abbrev pub Stepped : Stepping V F → Stepping V F → Option Load → Type 0
   Stepped a b load = ((t : Turn) × TakesTurn P told a b t × (load ≡ load_in t)) ⊎ ((m : Stepping V F) × Wants P told a m × Halts told m b × (load ≡ None))
 
-  -- where a cause was found the stepper was halted, else it made one turn
-  abbrev pub ObeysFound : Option Why → Stepping V F → Stepping V F → Option Load → Type 0
-  ObeysFound (Some cause) a b load = Halts told a b × (load ≡ None)
+  -- where a stop was found the stepper was halted behind the front that this names, else it made one turn
+  abbrev pub ObeysFound : Option Stop → Stepping V F → Stepping V F → Option Load → Type 0
+  ObeysFound (Some stop) a b load = Halts told a b × (load ≡ None) × ClosesRootBehind b.site.tree.seat stop.at
   ObeysFound None a b load = Stepped a b load
 
   abbrev pub Obeys : Look → Stepping V F → Stepping V F → Option Load → Type 0
   Obeys look a b load = ObeysFound (option_or look.own look.root) a b load
 
-  -- The stepper s of stream k was run on by one look of the seat: where a cause was found it was halted, else it made one turn. Unless it has ended it goes on behind that; where it has
+  -- The stepper s of stream k was run on by one look of the seat: where a stop was found it was halted behind it, else it made one turn. Unless it has ended it goes on behind that; where it has
   -- ended, a fault and want of memory interrupted the whole run. This is what is to be said of it.
   pub record MovesOn (k : ℕ) (s : Stepping V F) (running : Option (Stepping V F)) (old new : SeatSeen) (fresh : List Msg) : Type 0 where
     pub looked : SeatSeen

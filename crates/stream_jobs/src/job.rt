@@ -26,7 +26,7 @@ use device_port::{Device, Gate};
 use interrupt_ctx::{Board, BoardSeat};
 use pull_nodes::PipeState;
 use pull_stepper::{Held, Stepper};
-use row_seat::RowSeat;
+use row_seat::{MarksFront, RowSeat};
 use scope_tree::{Lease, Spent, Tree};
 use std::alloc::Global;
 use std::mem;
@@ -110,111 +110,6 @@ impl<V: Device, S: RowSeat<Pay = Held<V>>, F: PipeState> Job<S, V, F> {
         }
     }
 
-    /// The job of a stream whose stepper found no memory to begin, over its tree and its devices: it has
-    /// ended so. The whole run is interrupted for want of memory, the root is closed and the lease
-    /// cancelled, and the end waits.
-    pub fn unmade(
-        stream: u32,
-        tree: Tree<S>,
-        devices: List<V>,
-        seat: BoardSeat,
-        board: &Board,
-        sender: Sender,
-        lease: Lease,
-        desk: &mut S::Desk,
-    ) -> Job<S, V, F>
-        requires sender { (sender.stream ≡ stream) × (sender.sent ≡ []) }
-        requires lease { lessee lease ≡ stream }
-        requires seat { (seat.view.set ≡ []) × (seat.view.first ≡ false) }
-        requires board { seat.board ≡ board.now.id }
-        requires context { 0 < board.now.contexts }
-        requires fits { Fits S.view S.fits tree desk.old }
-        requires unmade { (w : Origin V F) × IsUnmade V.told stream (rows_covered lease) seat (seen S.view tree) devices w }
-        ensures job { (w : Origin V F) → IsUnmade V.told stream (rows_covered lease) seat (seen S.view tree) devices w → IsJob S.view F.values V.told (standing F.stands F.comes) w result }
-        ensures ended { (seen_job S.view F.values result).running ≡ None }
-        ensures sender { (seen_job S.view F.values result).sender ≡ sender }
-        ensures waits { (seen_job S.view F.values result).waiting ≡ Some (end_message stream how.Memory) }
-        ensures stops { StopsRun seat (seen_job S.view F.values result).board why.Memory }
-        ensures fits { FitsJob S.view V.told S.fits result desk.new }
-        ensures others { OthersFit S.view S.fits (Inner stream) desk.old desk.new }
-    {
-        let mut seat = seat;
-        interrupt_run(&mut seat, board, How::Memory);
-        Job {
-            stream,
-            stage: Some(Stage::Left(leave_unmade::<V, S, F>(tree, devices, lease, desk))),
-            board: seat,
-            sender,
-            waiting: Some(end_of(stream, How::Memory)),
-        }
-    }
-
-    /// Sends the message that waits, or makes a turn of the stepper and sends what is to be said of it.
-    /// It passes the gate and looks at the stream's context before each turn of the stepper.
-    pub fn turn<A: May, R: Wait, G: Gate>(
-        &mut self,
-        rt: &R,
-        desk: &mut S::Desk,
-        hub: &Hub<A>,
-        board: &Board,
-        gate: &G,
-    ) -> JobTurn
-    where
-        F::Tables: Drop,
-        requires over { ¬ (IsOver (seen_job S.view F.values self.old)) }
-        requires job { (w : Origin V F) × IsJob S.view F.values V.told (standing F.stands F.comes) w self.old }
-        requires fits { FitsJob S.view V.told S.fits self.old desk.old }
-        requires at { IsAt (seen_job S.view F.values self.old) hub.now board.now }
-        requires may { MaySendAll A.may hub.now.capacity (seen_job S.view F.values self.old).sender.stream }
-        ensures job { (w : Origin V F) → IsJob S.view F.values V.told (standing F.stands F.comes) w self.old → IsJob S.view F.values V.told (standing F.stands F.comes) w self.new }
-        ensures same { IsSameJob (seen_job S.view F.values self.old) (seen_job S.view F.values self.new) }
-        ensures advances { (seen_job S.view F.values self.old).waiting ≡ None → (s : Stepping V F) × ((seen_job S.view F.values self.old).running ≡ Some s) × Advances (standing F.stands F.comes) V.told s (seen_job S.view F.values self.old) (seen_job S.view F.values self.new) }
-        ensures only { IsSome (seen_job S.view F.values self.old).waiting → OnlySends (seen_job S.view F.values self.old) (seen_job S.view F.values self.new) }
-        ensures sends { Sends A.may hub.now.capacity (seen_job S.view F.values self.old) (seen_job S.view F.values self.new) result }
-        ensures fits { FitsJob S.view V.told S.fits self.new desk.new }
-        ensures others { OthersFit S.view S.fits (Inner (seen_job S.view F.values self.old).sender.stream) desk.old desk.new }
-    {
-        match self.waiting {
-            Some(_) => self.send(rt, hub),
-            None => {
-                self.advance(desk, board, gate);
-                self.send(rt, hub)
-            }
-        }
-    }
-
-    /// Takes the stepper one look further, and lets what is to be said of it wait.
-    fn advance<G: Gate>(&mut self, desk: &mut S::Desk, board: &Board, gate: &G)
-    where
-        F::Tables: Drop,
-        requires none { self.old.waiting ≡ None }
-        requires runs { IsSome (seen_job S.view F.values self.old).running }
-        requires job { (w : Origin V F) × IsJob S.view F.values V.told (standing F.stands F.comes) w self.old }
-        requires fits { FitsJob S.view V.told S.fits self.old desk.old }
-        requires at { (hub : HubSeen) × IsAt (seen_job S.view F.values self.old) hub board.now }
-        ensures job { (w : Origin V F) → IsJob S.view F.values V.told (standing F.stands F.comes) w self.old → IsJob S.view F.values V.told (standing F.stands F.comes) w self.new }
-        ensures sender { self.new.sender ≡ self.old.sender }
-        ensures number { self.new.stream ≡ self.old.stream }
-        ensures advances { (s : Stepping V F) × ((seen_job S.view F.values self.old).running ≡ Some s) × Advances (standing F.stands F.comes) V.told s (seen_job S.view F.values self.old) (seen_job S.view F.values self.new) }
-        ensures fits { FitsJob S.view V.told S.fits self.new desk.new }
-        ensures others { OthersFit S.view S.fits (Inner self.old.sender.stream) desk.old desk.new }
-    {
-        match self.stage.take() {
-            Some(Stage::Running(running)) => {
-                let Advanced { stage, message } = running.advance(
-                    desk,
-                    &mut self.board,
-                    board,
-                    gate,
-                );
-                fill(&mut self.stage, stage);
-                self.waiting = message;
-            }
-            Some(Stage::Left(_left)) => unreachable!(),
-            None => unreachable!(),
-        }
-    }
-
     /// Tries to send the message that waits.
     fn send<A: May, R: Wait>(&mut self, rt: &R, hub: &Hub<A>) -> JobTurn
         requires stage { IsSome self.old.stage }
@@ -265,36 +160,6 @@ impl<V: Device, S: RowSeat<Pay = Held<V>>, F: PipeState> Job<S, V, F> {
         }
     }
 
-    /// Makes turns until the end was sent; none where it was sent before.
-    pub fn finish<A: May, R: Wait, G: Gate>(
-        &mut self,
-        rt: &R,
-        desk: &mut S::Desk,
-        hub: &Hub<A>,
-        board: &Board,
-        gate: &G,
-    )
-    where
-        F::Tables: Drop,
-        requires job { (w : Origin V F) × IsJob S.view F.values V.told (standing F.stands F.comes) w self.old }
-        requires fits { FitsJob S.view V.told S.fits self.old desk.old }
-        requires at { IsAt (seen_job S.view F.values self.old) hub.now board.now }
-        requires may { MaySendAll A.may hub.now.capacity (seen_job S.view F.values self.old).sender.stream }
-        ensures job { (w : Origin V F) → IsJob S.view F.values V.told (standing F.stands F.comes) w self.old → IsJob S.view F.values V.told (standing F.stands F.comes) w self.new }
-        ensures over { IsOver (seen_job S.view F.values self.new) }
-        ensures same { IsSameJob (seen_job S.view F.values self.old) (seen_job S.view F.values self.new) }
-        ensures fits { FitsJob S.view V.told S.fits self.new desk.new }
-        ensures others { OthersFit S.view S.fits (Inner (seen_job S.view F.values self.old).sender.stream) desk.old desk.new }
-    {
-        'turns: for _ in rt.forever() {
-            if self.is_over() {
-                return;
-            }
-            self.turn(rt, desk, hub, board, gate);
-        }
-        unreachable!()
-    }
-
     /// Takes a job apart that is over.
     pub fn end(self) -> JobEnd<S, V>
         requires over { IsOver (seen_job S.view F.values self) }
@@ -331,5 +196,149 @@ impl<V: Device, S: RowSeat<Pay = Held<V>>, F: PipeState> Job<S, V, F> {
             Some(Stage::Running(_running)) => unreachable!(),
             None => unreachable!(),
         }
+    }
+}
+
+impl<V: Device, S: MarksFront + RowSeat<Pay = Held<V>>, F: PipeState> Job<S, V, F> {
+    /// The job of a stream whose stepper found no memory to begin, over its tree and its devices: it has
+    /// ended so. The root is closed and the lease cancelled, the whole run is interrupted for want of
+    /// memory, and the end waits.
+    pub fn unmade(
+        stream: u32,
+        tree: Tree<S>,
+        devices: List<V>,
+        seat: BoardSeat,
+        board: &Board,
+        sender: Sender,
+        lease: Lease,
+        desk: &mut S::Desk,
+    ) -> Job<S, V, F>
+    where
+        S::Mark: Drop,
+        requires sender { (sender.stream ≡ stream) × (sender.sent ≡ []) }
+        requires lease { lessee lease ≡ stream }
+        requires seat { (seat.view.set ≡ []) × (seat.view.first ≡ false) }
+        requires board { seat.board ≡ board.now.id }
+        requires context { 0 < board.now.contexts }
+        requires fits { Fits S.view S.fits tree desk.old }
+        requires unmade { (w : Origin V F) × IsUnmade V.told stream (rows_covered lease) seat (seen S.view tree) devices w }
+        ensures job { (w : Origin V F) → IsUnmade V.told stream (rows_covered lease) seat (seen S.view tree) devices w → IsJob S.view F.values V.told (standing F.stands F.comes) w result }
+        ensures ended { (seen_job S.view F.values result).running ≡ None }
+        ensures sender { (seen_job S.view F.values result).sender ≡ sender }
+        ensures waits { (seen_job S.view F.values result).waiting ≡ Some (end_message stream how.Memory) }
+        ensures stops { StopsRun seat (seen_job S.view F.values result).board why.Memory }
+        ensures fits { FitsJob S.view V.told S.fits result desk.new }
+        ensures others { OthersFit S.view S.fits (Inner stream) desk.old desk.new }
+    {
+        let mut left = leave_unmade::<V, S, F>(tree, devices, lease, desk);
+        let mut seat = seat;
+        interrupt_run(&mut left.seat, desk, &mut seat, board, How::Memory);
+        Job {
+            stream,
+            stage: Some(Stage::Left(left)),
+            board: seat,
+            sender,
+            waiting: Some(end_of(stream, How::Memory)),
+        }
+    }
+
+    /// Sends the message that waits, or makes a turn of the stepper and sends what is to be said of it.
+    /// It passes the gate and looks at the stream's context before each turn of the stepper.
+    pub fn turn<A: May, R: Wait, G: Gate>(
+        &mut self,
+        rt: &R,
+        desk: &mut S::Desk,
+        hub: &Hub<A>,
+        board: &Board,
+        gate: &G,
+    ) -> JobTurn
+    where
+        F::Tables: Drop,
+        S::Mark: Drop,
+        requires over { ¬ (IsOver (seen_job S.view F.values self.old)) }
+        requires job { (w : Origin V F) × IsJob S.view F.values V.told (standing F.stands F.comes) w self.old }
+        requires fits { FitsJob S.view V.told S.fits self.old desk.old }
+        requires at { IsAt (seen_job S.view F.values self.old) hub.now board.now }
+        requires may { MaySendAll A.may hub.now.capacity (seen_job S.view F.values self.old).sender.stream }
+        ensures job { (w : Origin V F) → IsJob S.view F.values V.told (standing F.stands F.comes) w self.old → IsJob S.view F.values V.told (standing F.stands F.comes) w self.new }
+        ensures same { IsSameJob (seen_job S.view F.values self.old) (seen_job S.view F.values self.new) }
+        ensures advances { (seen_job S.view F.values self.old).waiting ≡ None → (s : Stepping V F) × ((seen_job S.view F.values self.old).running ≡ Some s) × Advances (standing F.stands F.comes) V.told s (seen_job S.view F.values self.old) (seen_job S.view F.values self.new) }
+        ensures only { IsSome (seen_job S.view F.values self.old).waiting → OnlySends (seen_job S.view F.values self.old) (seen_job S.view F.values self.new) }
+        ensures sends { Sends A.may hub.now.capacity (seen_job S.view F.values self.old) (seen_job S.view F.values self.new) result }
+        ensures fits { FitsJob S.view V.told S.fits self.new desk.new }
+        ensures others { OthersFit S.view S.fits (Inner (seen_job S.view F.values self.old).sender.stream) desk.old desk.new }
+    {
+        match self.waiting {
+            Some(_) => self.send(rt, hub),
+            None => {
+                self.advance(rt, desk, board, gate);
+                self.send(rt, hub)
+            }
+        }
+    }
+
+    /// Takes the stepper one look further, and lets what is to be said of it wait.
+    fn advance<R: Wait, G: Gate>(&mut self, rt: &R, desk: &mut S::Desk, board: &Board, gate: &G)
+    where
+        F::Tables: Drop,
+        S::Mark: Drop,
+        requires none { self.old.waiting ≡ None }
+        requires runs { IsSome (seen_job S.view F.values self.old).running }
+        requires job { (w : Origin V F) × IsJob S.view F.values V.told (standing F.stands F.comes) w self.old }
+        requires fits { FitsJob S.view V.told S.fits self.old desk.old }
+        requires at { (hub : HubSeen) × IsAt (seen_job S.view F.values self.old) hub board.now }
+        ensures job { (w : Origin V F) → IsJob S.view F.values V.told (standing F.stands F.comes) w self.old → IsJob S.view F.values V.told (standing F.stands F.comes) w self.new }
+        ensures sender { self.new.sender ≡ self.old.sender }
+        ensures number { self.new.stream ≡ self.old.stream }
+        ensures advances { (s : Stepping V F) × ((seen_job S.view F.values self.old).running ≡ Some s) × Advances (standing F.stands F.comes) V.told s (seen_job S.view F.values self.old) (seen_job S.view F.values self.new) }
+        ensures fits { FitsJob S.view V.told S.fits self.new desk.new }
+        ensures others { OthersFit S.view S.fits (Inner self.old.sender.stream) desk.old desk.new }
+    {
+        match self.stage.take() {
+            Some(Stage::Running(running)) => {
+                let Advanced { stage, message } = running.advance(
+                    rt,
+                    desk,
+                    &mut self.board,
+                    board,
+                    gate,
+                );
+                fill(&mut self.stage, stage);
+                self.waiting = message;
+            }
+            Some(Stage::Left(_left)) => unreachable!(),
+            None => unreachable!(),
+        }
+    }
+
+    /// Makes turns until the end was sent; none where it was sent before.
+    pub fn finish<A: May, R: Wait, G: Gate>(
+        &mut self,
+        rt: &R,
+        desk: &mut S::Desk,
+        hub: &Hub<A>,
+        board: &Board,
+        gate: &G,
+    )
+    where
+        F::Tables: Drop,
+        S::Mark: Drop,
+        requires job { (w : Origin V F) × IsJob S.view F.values V.told (standing F.stands F.comes) w self.old }
+        requires fits { FitsJob S.view V.told S.fits self.old desk.old }
+        requires at { IsAt (seen_job S.view F.values self.old) hub.now board.now }
+        requires may { MaySendAll A.may hub.now.capacity (seen_job S.view F.values self.old).sender.stream }
+        ensures job { (w : Origin V F) → IsJob S.view F.values V.told (standing F.stands F.comes) w self.old → IsJob S.view F.values V.told (standing F.stands F.comes) w self.new }
+        ensures over { IsOver (seen_job S.view F.values self.new) }
+        ensures same { IsSameJob (seen_job S.view F.values self.old) (seen_job S.view F.values self.new) }
+        ensures fits { FitsJob S.view V.told S.fits self.new desk.new }
+        ensures others { OthersFit S.view S.fits (Inner (seen_job S.view F.values self.old).sender.stream) desk.old desk.new }
+    {
+        'turns: for _ in rt.forever() {
+            if self.is_over() {
+                return;
+            }
+            self.turn(rt, desk, hub, board, gate);
+        }
+        unreachable!()
     }
 }

@@ -11,8 +11,11 @@
 //! its own memory is let go of where it was filled. Where there is no memory for these bytes the load is
 //! sent as it is.
 //!
-//! Where the stepper has ended, a fault or want of memory interrupts the whole run, the lease is
-//! cancelled with the exit of the end, and the end is sent as the last message. The job is `Over` then,
+//! A job that finds its context interrupted waits until its own seat at the desk sees the front of the
+//! ledger that the interruption names, and closes its root behind that.
+//!
+//! Where the stepper has ended, the lease is cancelled with the exit of the end, a fault or want of memory
+//! interrupts the whole run, behind all that the stream has noted, and the end is sent as the last message. The job is `Over` then,
 //! and `Job::end` takes it apart (`JobEnd`): its seats, its sender, the rows that ended on its tree and
 //! the devices that were never opened. `Job::finish` makes turns until that is so.
 //!
@@ -21,7 +24,7 @@
 //!
 //! Contracts see a job by what it came from (`Origin`): `IsJob` says of all that was said so far, sent or
 //! waiting, that it is of a run of the stream's node, and of the seat at the board that it has set and
-//! seen what goes with that (`HasLearned`); each turn keeps both. What other streams do at the desk leaves
+//! seen what goes with that (`HasLearned`), where it is to (`HasPlaces`); each turn keeps both. What other streams do at the desk leaves
 //! a job its fit (`laws`). No call takes memory but for the stepper's turns, where want of it is the end
 //! `Memory`, and for the texts of loads.
 //!

@@ -11,7 +11,7 @@ ghost use Rattle.stream_jobs.specs.Leaving.{CanLeave, IsVisiting, Leaves};
 ghost use Rattle.pull_stepper.specs.Steppers.{Works, stepping};
 ghost use Rattle.stream_jobs.specs.Learned.{HasLearned};
 ghost use Rattle.stream_jobs.specs.Messages.{IsNews, end_message, held, load_message};
-ghost use Rattle.stream_jobs.specs.Running.{FitsStage, Origin, RunsOn, Stands, ended_at, running_at};
+ghost use Rattle.stream_jobs.specs.Running.{FitsStage, Origin, RunsOn, StagePlaces, Stands, ended_at, running_at};
 ghost use Rattle.stream_jobs.specs.Steps.{MovesOn};
 
 use crate::leaving::{Left, leave};
@@ -23,9 +23,10 @@ use device_port::{Device, Gate};
 use interrupt_ctx::{Board, BoardSeat};
 use pull_nodes::PipeState;
 use pull_stepper::{Held, Stepper};
-use row_seat::RowSeat;
+use row_seat::{MarksFront, RowSeat};
 use scope_tree::Lease;
 use std::alloc::Global;
+use std::sync::Wait;
 
 /// A lease that goes with its job. What a thread gives back may be let go, so a job has to be; then the
 /// lease is never cancelled.
@@ -111,12 +112,13 @@ fn message_of(alloc: Global, stream: u32, load: Option<Load>) -> Option<Msg>
     }
 }
 
-impl<V: Device, S: RowSeat<Pay = Held<V>>, F: PipeState> Running<S, V, F> {
+impl<V: Device, S: MarksFront + RowSeat<Pay = Held<V>>, F: PipeState> Running<S, V, F> {
     /// Passes the gate, looks at the stream's context once, and halts the stepper where it is
-    /// interrupted, or makes one turn. Where the stepper has ended then, the whole run is interrupted
-    /// by a fault or want of memory, and the lease is cancelled.
-    pub(crate) fn advance<G: Gate>(
+    /// interrupted, or makes one turn. Where the stepper has ended then, the lease is cancelled, and
+    /// the whole run is interrupted by a fault or want of memory.
+    pub(crate) fn advance<R: Wait, G: Gate>(
         self,
+        rt: &R,
         desk: &mut S::Desk,
         seat: &mut BoardSeat,
         board: &Board,
@@ -124,6 +126,7 @@ impl<V: Device, S: RowSeat<Pay = Held<V>>, F: PipeState> Running<S, V, F> {
     ) -> Advanced<S, V, F>
     where
         F::Tables: Drop,
+        S::Mark: Drop,
         requires fits { Works S.view V.told S.fits self.stepper desk.old }
         requires runs { (w : Origin V F) × (said : List Msg) × RunsOn V.told (standing F.stands F.comes) S.view F.values w self said }
         requires board { seat.old.board ≡ board.now.id }
@@ -131,6 +134,7 @@ impl<V: Device, S: RowSeat<Pay = Held<V>>, F: PipeState> Running<S, V, F> {
         requires number { 1 + self.stream < 2 ^ 32 }
         ensures stands { (w : Origin V F) (said : List Msg) → RunsOn V.told (standing F.stands F.comes) S.view F.values w self said → Stands V.told (standing F.stands F.comes) S.view F.values w result.stage (said ++ held result.message) }
         ensures learned { (w : Origin V F) (said : List Msg) → RunsOn V.told (standing F.stands F.comes) S.view F.values w self said → HasLearned w.stream w.board seat.old None → HasLearned w.stream w.board seat.new (ended_at result.stage) }
+        ensures places { (w : Origin V F) (said : List Msg) → RunsOn V.told (standing F.stands F.comes) S.view F.values w self said → HasLearned w.stream w.board seat.old None → StagePlaces S.view w.stream seat.new.view result.stage }
         ensures moves { MovesOn (standing F.stands F.comes) V.told self.stream (stepping S.view F.values self.stepper) (running_at S.view F.values result.stage) seat.old seat.new (held result.message) }
         ensures fits { FitsStage V.told S.view S.fits result.stage desk.new }
         ensures others { OthersFit S.view S.fits (Inner self.stream) desk.old desk.new }
@@ -142,7 +146,7 @@ impl<V: Device, S: RowSeat<Pay = Held<V>>, F: PipeState> Running<S, V, F> {
             alloc,
         } = self;
         gate.pass(stream);
-        let load = look_and_step(&mut stepper, desk, seat, board, 1 + stream);
+        let load = look_and_step(rt, &mut stepper, desk, seat, board, 1 + stream);
         match stepper.how() {
             None => Advanced {
                 message: message_of(alloc, stream, load),
@@ -154,9 +158,10 @@ impl<V: Device, S: RowSeat<Pay = Held<V>>, F: PipeState> Running<S, V, F> {
                 }),
             },
             Some(how) => {
-                interrupt_run(seat, board, how);
+                let mut left = lease.leave(stepper, desk);
+                interrupt_run(&mut left.seat, desk, seat, board, how);
                 Advanced {
-                    stage: Stage::Left(lease.leave(stepper, desk)),
+                    stage: Stage::Left(left),
                     message: Some(end_of(stream, how)),
                 }
             }

@@ -11,7 +11,7 @@ use device_port::{Device, Gate};
 use interrupt_ctx::{Board, BoardRef};
 use pull_nodes::PipeState;
 use pull_stepper::Held;
-use row_seat::RowSeat;
+use row_seat::{MarksFront, RowSeat};
 use row_shared::SharesDesk;
 use std::snapshot::Snapshot;
 use std::sync::Wait;
@@ -46,13 +46,14 @@ pub fn run_away<
     A: May,
     R: Wait,
     G: Gate,
-    S: SharesDesk + RowSeat<Pay = Held<V>>,
+    S: SharesDesk + MarksFront + RowSeat<Pay = Held<V>>,
     V: Device,
     F: PipeState,
 >(rt: &R, desk: S::Desk, hub: &Hub<A>, board: &Board, gate: &G, job: Job<S, V, F>) -> Job<S, V, F>
 where
     F::Tables: Drop,
     S::Desk: Drop,
+    S::Mark: Drop,
     requires ready { IsReady S.view F.values V.told (standing F.stands F.comes) S.fits A.may job desk hub.now board.now }
     ensures back { ComesBack S.view F.values V.told (standing F.stands F.comes) S.fits job result }
     ensures over { IsOver (seen_job S.view F.values result) }
@@ -86,13 +87,14 @@ pub(crate) fn run_unless<
     A: May,
     R: Wait,
     G: Gate,
-    S: SharesDesk + RowSeat<Pay = Held<V>>,
+    S: SharesDesk + MarksFront + RowSeat<Pay = Held<V>>,
     V: Device,
     F: PipeState,
 >(place: &Place<'_, R, G>, carried: Carried<S, V, F, A>) -> Job<S, V, F>
 where
     F::Tables: Drop,
     S::Desk: Drop,
+    S::Mark: Drop,
     requires ready { IsReady S.view F.values V.told (standing F.stands F.comes) S.fits A.may carried.job carried.desk carried.hub carried.board }
     ensures { ComesBack S.view F.values V.told (standing F.stands F.comes) S.fits carried.job result }
 {

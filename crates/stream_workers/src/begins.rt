@@ -13,7 +13,7 @@ use device_port::{Device, Gate};
 use interrupt_ctx::BoardRef;
 use pull_nodes::PipeState;
 use pull_stepper::Held;
-use row_seat::RowSeat;
+use row_seat::{MarksFront, RowSeat};
 use row_shared::SharesDesk;
 use std::snapshot::Snapshot;
 use std::sync::Wait;
@@ -27,7 +27,7 @@ pub fn begin<
     's,
     E,
     A: May + Send + Sync + 's,
-    S: SharesDesk + RowSeat<Pay = Held<V>> + Drop + Send + 's,
+    S: SharesDesk + MarksFront + RowSeat<Pay = Held<V>> + Drop + Send + 's,
     V: Device + Drop + Send + 's,
     F: PipeState + Send + 's,
     R: Wait + Sync + 's,
@@ -42,6 +42,7 @@ pub fn begin<
 ) -> Open<S, V, F>
 where
     S::Desk: Drop + Send + 's,
+    S::Mark: Drop + Send,
     F::Tables: Drop + Send + 's,
     requires job { (w : Origin V F) × IsJob S.view F.values V.told (standing F.stands F.comes) w job }
     requires at { IsAt (seen_job S.view F.values job) hub board }

@@ -13,7 +13,7 @@ use device_port::{Device, Gate};
 use interrupt_ctx::Board;
 use pull_nodes::PipeState;
 use pull_stepper::Held;
-use row_seat::RowSeat;
+use row_seat::{MarksFront, RowSeat};
 use row_shared::SharesDesk;
 use std::marker::Model;
 use std::snapshot::Snapshot;
@@ -22,7 +22,7 @@ use std::thread::{PromisedHandle, Threads};
 use stream_jobs::Job;
 
 /// Gives a job a turn, unless it is over.
-fn step<A: May, R: Wait, G: Gate, S: RowSeat<Pay = Held<V>>, V: Device, F: PipeState>(
+fn step<A: May, R: Wait, G: Gate, S: MarksFront + RowSeat<Pay = Held<V>>, V: Device, F: PipeState>(
     rt: &R,
     desk: &mut S::Desk,
     hub: &Hub<A>,
@@ -32,6 +32,7 @@ fn step<A: May, R: Wait, G: Gate, S: RowSeat<Pay = Held<V>>, V: Device, F: PipeS
 ) -> Job<S, V, F>
 where
     F::Tables: Drop,
+    S::Mark: Drop,
     requires job { (w : Origin V F) × IsJob S.view F.values V.told (standing F.stands F.comes) w job }
     requires fits { FitsJob S.view V.told S.fits job desk.old }
     requires at { IsAt (seen_job S.view F.values job) hub.now board.now }
@@ -152,7 +153,7 @@ impl<S: RowSeat<Pay = Held<V>>, V: Device, F: PipeState> Open<S, V, F> {
     }
 }
 
-impl<S: SharesDesk + RowSeat<Pay = Held<V>>, V: Device, F: PipeState> Open<S, V, F> {
+impl<S: SharesDesk + MarksFront + RowSeat<Pay = Held<V>>, V: Device, F: PipeState> Open<S, V, F> {
     /// Gives a job that is here a turn, unless it is over. It is seen as it began still.
     pub fn turn<A: May, R: Wait, G: Gate>(
         self,
@@ -164,6 +165,7 @@ impl<S: SharesDesk + RowSeat<Pay = Held<V>>, V: Device, F: PipeState> Open<S, V,
     ) -> Open<S, V, F>
     where
         F::Tables: Drop,
+        S::Mark: Drop,
         requires job { (w : Origin V F) × IsJob S.view F.values V.told (standing F.stands F.comes) w self }
         requires fits { FitsJob S.view V.told S.fits self desk.old }
         requires at { IsAt (seen_job S.view F.values self) hub.now board.now }

@@ -11,7 +11,7 @@ use Rattle.channel_bounded.specs.declared.message.Msg.{Msg}
 use Rattle.interrupt_ctx.specs.Ends.{SeatSeen}
 use Rattle.interrupt_ctx.specs.Views.{after_look}
 use Rattle.interrupt_ctx.specs.declared.view.View.{View}
-use Rattle.interrupt_ctx.specs.declared.why.Why.{Why}
+use Rattle.interrupt_ctx.specs.declared.why.Stop.{Stop}
 use Rattle.topic_hub.specs.Subscribers.{SubscriberSeen, received}
 use Rattle.tee_texts.specs.Texts.{IsTextOf, end_message}
 use Rattle.tee_branches.specs.declared.branch.Branch.{Branch}
@@ -65,10 +65,10 @@ module _ {F : Type 0} (StandsFor : F → Meaning → List Element → Type 0) (C
   }
 
   module _ (a b : Branch F) (h : IsIts a) (none : a.waiting ≡ None) (look : LooksOnce a.board b.board) (number : b.number ≡ a.number) (sender : b.sender ≡ a.sender) where
-    abbrev own : Option Why
+    abbrev own : Option Stop
     own = b.board.view.last.own
 
-    abbrev root : Option Why
+    abbrev root : Option Stop
     root = b.board.view.last.root
 
     abbrev looked : View
@@ -78,10 +78,10 @@ module _ {F : Type 0} (StandsFor : F → Meaning → List Element → Type 0) (C
     seen = ap (λ (s : SeatSeen). s.view) look
 
     -- the run is interrupted
-    pub branch_halts : ((e : How) → a.stage ≡ stage.Over e → ⊥) → (why : Why) → option_or own root ≡ Some why → b.source ≡ a.source → b.stage ≡ stage.Over how.Halted → b.waiting ≡ Some (end_message a.number how.Halted) → IsIts b
-    branch_halts unless why found source is waits =
+    pub branch_halts : ((e : How) → a.stage ≡ stage.Over e → ⊥) → (stop : Stop) → option_or own root ≡ Some stop → b.source ≡ a.source → b.stage ≡ stage.Over how.Halted → b.waiting ≡ Some (end_message a.number how.Halted) → IsIts b
+    branch_halts unless stop found source is waits =
         let got = received a.source in
-        let stopped = halts StandsFor Comes a.number m looked a.stage got (said a) unless (looks a.board.view own root StandsFor Comes a.number m a.stage got (said a) h.stands) (found_stops a.board.view own root own root why got refl refl found) in
+        let stopped = halts StandsFor Comes a.number m looked a.stage got (said a) unless (looks a.board.view own root StandsFor Comes a.number m a.stage got (said a) h.stands) (found_stops a.board.view own root own root stop got refl refl found) in
         record {
           number = ap (λ (u : SubscriberSeen). u.number) source ∙ (h.number ∙ sym number);
           sender = ap (λ s. s.stream) sender ∙ (h.sender ∙ sym number);

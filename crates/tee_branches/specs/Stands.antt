@@ -11,7 +11,7 @@ use Rattle.channel_bounded.specs.declared.message.Body.TheVariants as body
 use Rattle.channel_bounded.specs.declared.message.Msg.{Msg}
 use Rattle.interrupt_ctx.specs.Views.{Knows}
 use Rattle.interrupt_ctx.specs.declared.view.View.{View}
-use Rattle.interrupt_ctx.specs.declared.why.Why.{Why}
+use Rattle.interrupt_ctx.specs.declared.why.Stop.{Stop}
 use Rattle.tee_texts.specs.Texts.{end_message}
 use Rattle.tee_branches.specs.declared.stage.Stage.{Stage}
 use Rattle.tee_branches.specs.declared.stage.Stage.TheVariants as stage
@@ -19,7 +19,7 @@ use Rattle.tee_branches.specs.Messages.{AreReceived, IsReceived, IsSaidOf, IsSto
 
 -- why a branch may be halted: the whole run was interrupted, or an end came that isn't a whole one
 abbrev pub HasStopped : View → List Body → Type 0
-HasStopped v got = ((why : Why) × Knows v 0 why) ⊎ IsStoppedBefore got
+HasStopped v got = ((stop : Stop) × Knows v 0 stop) ⊎ IsStoppedBefore got
 
 -- Branch k, whose pipe has this meaning, has ended so: it said what its pipe gives of what it received, all of it unless it was stopped, and it was halted only for a cause.
 pub record HasEnded (k : ℕ) (m : Meaning) (v : View) (got : List Body) (said : List Msg) (h : How) : Type 0 where

@@ -6,7 +6,7 @@ use Rattle.channel_bounded.specs.Ends.{ReceiverSees}
 use Rattle.channel_bounded.specs.declared.message.Body.{Body}
 use Rattle.channel_bounded.specs.declared.message.Msg.{Msg}
 use Rattle.interrupt_ctx.specs.Views.{after_look}
-use Rattle.interrupt_ctx.specs.declared.why.Why.{Why}
+use Rattle.interrupt_ctx.specs.declared.why.Stop.{Stop}
 use Rattle.interrupt_ctx.specs.Ends.{SeatSeen}
 use Rattle.topic_hub.specs.Places.{FoundFull}
 use Rattle.topic_hub.specs.Subscribers.{SubscriberSeen, receiver_of, with_got}
@@ -39,8 +39,8 @@ module _ {F : Type 0} where
     pub ended : b.stage ≡ stage.Over how.Halted
 
   -- by what the look found
-  abbrev pub Obeys : Option Why → Branch F → Branch F → Type 0
-  Obeys (Some why) a b = IsHalted a b
+  abbrev pub Obeys : Option Stop → Branch F → Branch F → Type 0
+  Obeys (Some stop) a b = IsHalted a b
   Obeys None a b = ReceivesOne a.source b.source
 
   -- nothing waited: the branch looked once, and went on by what it found

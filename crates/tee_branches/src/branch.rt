@@ -133,9 +133,9 @@ impl<F: Feed> Branch<F> {
         ensures goes_on { GoesOn self.old self.new }
         ensures empty { OnFalse result (IsIdle A.may self.old self.new) }
     {
-        let why = self.board.look(board, 0);
+        let stop = self.board.look(board, 0);
         let stage = mem::replace(&mut self.stage, Stage::Over(How::Halted));
-        match why {
+        match stop {
             Some(_) => {
                 self.waiting = Some(end_of(self.number, How::Halted));
                 true

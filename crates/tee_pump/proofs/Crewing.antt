@@ -82,7 +82,7 @@ pump_begins {F} StandsFor Comes s ms start c p room h a b d e hired = record {
       board_is = ap (λ (x : SeatSeen). x.board) d ∙ h.split.seat_is.board_is;
       first = ap (λ (x : SeatSeen). x.view.first) d ∙ h.split.seat_is.first;
       out = ap (λ (x : SeatSeen). x.view.out) d ∙ h.split.seat_is.out;
-      caused = λ why m. absurd (h.split.seat_is.caused why (subst (λ (x : SeatSeen). IsAmong (interruption 0 why) x.view.set) d m));
+      caused = λ stop m. absurd (h.split.seat_is.caused stop (subst (λ (x : SeatSeen). IsAmong (interruption 0 stop) x.view.set) d m));
     };
     obeyed = λ m. absurd (none_stops (subst (λ (x : Printer). MustStop x.ends.items x.broken) b m));
     none_told = ap (λ (x : Vec How Global). x.items) e ∙ h.none_told;

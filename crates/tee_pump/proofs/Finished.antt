@@ -21,7 +21,7 @@ use Rattle.channel_bounded.specs.declared.message.Msg.{Msg}
 use Rattle.device_port.specs.Sink.{SinkTold, with_bytes}
 use Rattle.interrupt_ctx.specs.Views.{HasSetAll, interruption}
 use Rattle.interrupt_ctx.specs.declared.view.View.{View}
-use Rattle.interrupt_ctx.specs.declared.why.Why.{Why}
+use Rattle.interrupt_ctx.specs.declared.why.Stop.{Stop}
 use Rattle.pull_nodes.specs.Plain.{IsFront}
 use Rattle.run_rules.specs.Facts.{IsOver}
 use Rattle.tee_prints.specs.Printed.{IsStop, Prints, Writes}
@@ -114,7 +114,7 @@ module _ (ms : List Meaning) (loads : List Load) (reader : How) (start now : Sin
           let y : at_end.0 ≡ told.0 = same_told at_end.0 told.0 (one_at ends c.0 (Some at_end.0) (Some told.0) (each c.0 at_end.0 at_end.1) told.1) in
           inr (c.0, at_end.0, at_end.1, subst IsStop (sym (y ∙ same)) c.3)
 
-  module _ (texts : HasTexts (numbers (length ms)) got) (set : HasSetAll view) (caused : (why : Why) → IsAmong (interruption 0 why) view.set → ((broken ≡ true) ⊎ ((i : ℕ) × (h : How) × (i < length ms) × IsStop h × IsAmong (end_message i h) got)) ⊎ IsEarly reader) where
+  module _ (texts : HasTexts (numbers (length ms)) got) (set : HasSetAll view) (caused : (stop : Stop) → IsAmong (interruption 0 stop) view.set → ((broken ≡ true) ⊎ ((i : ℕ) × (h : How) × (i < length ms) × IsStop h × IsAmong (end_message i h) got)) ⊎ IsEarly reader) where
     begun : IsBegun start now got prints.printed broken
     begun = begun_of start now got prints.printed broken prints.writes
 

@@ -15,7 +15,7 @@ use Rattle.channel_bounded.specs.declared.message.Body.TheVariants as body
 use Rattle.channel_bounded.specs.declared.message.Msg.{Msg}
 use Rattle.interrupt_ctx.specs.Views.{HasSetAll, interruption}
 use Rattle.interrupt_ctx.specs.declared.view.View.{View}
-use Rattle.interrupt_ctx.specs.declared.why.Why.{Why}
+use Rattle.interrupt_ctx.specs.declared.why.Stop.{Stop}
 use Rattle.pull_nodes.specs.Plain.{IsFront}
 use Rattle.run_rules.specs.Facts.{IsOver}
 use Rattle.run_rules.specs.Outputs.{elements_in_pieces, payloads_by}
@@ -178,5 +178,5 @@ module _ (i : ℕ) (m : Meaning) (loads : List Load) (reader : How) (got : List 
   not_over_at_cut printed after x h e own (inr o) over = hidden_not_over o.0 (subst IsOver o.2 over)
 
   -- a branch is halted since the run was interrupted, or by an end that isn't a whole one
-  pub halted_told : (C : Type 0) → IsAmong (end_message i how.Halted) got → HasSetAll view → ((why : Why) → IsAmong (interruption 0 why) view.set → C) → C ⊎ IsEarly reader
+  pub halted_told : (C : Type 0) → IsAmong (end_message i how.Halted) got → HasSetAll view → ((stop : Stop) → IsAmong (interruption 0 stop) view.set → C) → C ⊎ IsEarly reader
   halted_told C a set caused = ⊎_elim (λ k. inl (caused k.0 (set 0 k.0 (t.knows k.0 k.1)))) (λ r. inr (stopped_before loads reader t.received t.front r)) (t.ended.halted (sym (own_end how.Halted a)))

@@ -138,7 +138,7 @@ module _ {F : Type 0} (StandsFor : F → Meaning → List Element → Type 0) (C
   finished_all reader sent seat t serving front settled texts set known broken count each =
       subst (λ g. IsFinished ms g reader start after t) (sym h.given_is)
       (finished ms h.loads reader start after q.printer.receiver.got seat.view q.printer.ends.items q.printer.broken t serving.printing.prints (settled_all reader sent q.printer.receiver.got seat.view front settled) broken count each
-      (subst (λ l. HasTexts l q.printer.receiver.got) serving.printing.made texts) known (λ why m. serving.seat.caused why (subst (λ l. IsAmong (interruption 0 why) l) set m)))
+      (subst (λ l. HasTexts l q.printer.receiver.got) serving.printing.made texts) known (λ stop m. serving.seat.caused stop (subst (λ l. IsAmong (interruption 0 stop) l) set m)))
 
   -- a cause to stop is told in the end
   pub stopped_all : (reader : How) (sent : List Body) (seat : SeatSeen) (t : TeeEnd) → IsServing StandsFor Comes s ms reader start after q → IsFront sent (all reader) → AreSettledFrom 0 ms sent q.printer.receiver.got seat.view

@@ -17,7 +17,7 @@ use Rattle.channel_bounded.specs.declared.message.Msg.{Msg}
 use Rattle.interrupt_ctx.specs.Ends.{SeatSeen}
 use Rattle.interrupt_ctx.specs.Views.{HasSetAll, Knows, interruption, joined}
 use Rattle.interrupt_ctx.specs.declared.view.View.{View}
-use Rattle.interrupt_ctx.specs.declared.why.Why.{Why}
+use Rattle.interrupt_ctx.specs.declared.why.Stop.{Stop}
 use Rattle.topic_hub.specs.Places.{bodies}
 use Rattle.topic_hub.specs.Subscribers.{IsAtQueue, SubscriberSeen, received}
 use Rattle.topic_hub.specs.Topics.{IsSubscriber, PublisherSeen, SettlesWith, due, pending}
@@ -49,8 +49,8 @@ module _ {F : Type 0} (StandsFor : F → Meaning → List Element → Type 0) (C
   back_board = back.same.board ∙ is.at.board_is
 
 -- what the seat that stays knows of what another knew
-knows_right : (old new : SeatSeen) (w : View) → new ≡ record old { view = joined old.view w } → (why : Why) → Knows w 0 why → Knows new.view 0 why
-knows_right old new w e why k = subst (λ (x : SeatSeen). Knows x.view 0 why) (sym e) (⊎_elim (λ a. inl (among_right (interruption 0 why) old.view.set w.set a)) (λ a. inr (among_right (interruption 0 why) old.view.seen w.seen a)) k)
+knows_right : (old new : SeatSeen) (w : View) → new ≡ record old { view = joined old.view w } → (stop : Stop) → Knows w 0 stop → Knows new.view 0 stop
+knows_right old new w e stop k = subst (λ (x : SeatSeen). Knows x.view 0 stop) (sym e) (⊎_elim (λ a. inl (among_right (interruption 0 stop) old.view.set w.set a)) (λ a. inr (among_right (interruption 0 stop) old.view.seen w.seen a)) k)
 
 pub seat_joined : (old new : SeatSeen) (w : View) → w.set ≡ [] → new ≡ record old { view = joined old.view w } → (new.view.out ≡ 0 → HasSetAll new.view) → JoinsSeat old new
 seat_joined old new w none e all = record {
@@ -58,7 +58,7 @@ seat_joined old new w none e all = record {
   first = ap (λ (x : SeatSeen). x.view.first) e;
   out = ap (λ (x : SeatSeen). x.view.out) e;
   set = ap (λ (x : SeatSeen). x.view.set) e ∙ (ap (λ l. old.view.set ++ l) none ∙ append-nil old.view.set);
-  knows = λ why k. subst (λ (x : SeatSeen). Knows x.view 0 why) (sym e) (⊎_elim (λ a. inl (among_left w.set a)) (λ a. inr (among_left w.seen a)) k);
+  knows = λ stop k. subst (λ (x : SeatSeen). Knows x.view 0 stop) (sym e) (⊎_elim (λ a. inl (among_left w.set a)) (λ a. inr (among_left w.seen a)) k);
   all = all;
 }
 
@@ -88,8 +88,8 @@ settled_one i m e a b got queued old new number ends w whole seat = record {
 }
 
 -- what was known then is known later
-pub settled_later : (i : ℕ) (m : Meaning) (all : List Body) (got : List Msg) (v w : View) → ((why : Why) → Knows v 0 why → Knows w 0 why) → IsSettled i m all got v → IsSettled i m all got w
-settled_later i m all got v w k h = record { how = h.how; said = h.said; received = h.received; seen = h.seen; front = h.front; ended = h.ended; queued = h.queued; whole = h.whole; knows = λ why x. k why (h.knows why x) }
+pub settled_later : (i : ℕ) (m : Meaning) (all : List Body) (got : List Msg) (v w : View) → ((stop : Stop) → Knows v 0 stop → Knows w 0 stop) → IsSettled i m all got v → IsSettled i m all got w
+settled_later i m all got v w k h = record { how = h.how; said = h.said; received = h.received; seen = h.seen; front = h.front; ended = h.ended; queued = h.queued; whole = h.whole; knows = λ stop x. k stop (h.knows stop x) }
 
 module _ {F : Type 0} (StandsFor : F → Meaning → List Element → Type 0) (Comes : F → LoadKind → List Element → Option Code → Type 0) (s : SharedSeen) where
   -- those behind the ones that are left were taken in
@@ -122,7 +122,7 @@ module _ {F : Type 0} (StandsFor : F → Meaning → List Element → Type 0) (C
     pub may_settle : (i : ℕ) × (m : Meaning) × IsHiredAs StandsFor Comes s i m x × ((t : SubscriberSeen) → t.number ≡ i → IsAtQueue s.topic t → IsSubscriber p t)
     may_settle = (length rest, meaning.0, last_hired, λ t e q. h.published.subscribed t (let n = shorter left rest x last in omega (arith, n, e)) q)
 
-    pub settling_more : (q : PublisherSeen) (w : View) → ((i : ℕ) (m : Meaning) → IsHiredAs StandsFor Comes s i m x → IsSettled i m (due p i) got w × ((t : SubscriberSeen) × (t.number ≡ i) × SettlesWith ArePieces p q t)) → ((why : Why) → Knows view 0 why → Knows w 0 why) → IsSettling ms all got rest q w
+    pub settling_more : (q : PublisherSeen) (w : View) → ((i : ℕ) (m : Meaning) → IsHiredAs StandsFor Comes s i m x → IsSettled i m (due p i) got w × ((t : SubscriberSeen) × (t.number ≡ i) × SettlesWith ArePieces p q t)) → ((stop : Stop) → Knows view 0 stop → Knows w 0 stop) → IsSettling ms all got rest q w
     settling_more q w f knows =
         let n = shorter left rest x last in
         let one = f (length rest) meaning.0 last_hired in

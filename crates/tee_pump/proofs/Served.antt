@@ -12,7 +12,7 @@ use Rattle.std.specs.Bool.{OnFalse, OnTrue}
 use Rattle.chunk_core.proofs.Members.{among_last}
 use Rattle.interrupt_ctx.specs.Ends.{BoardSeen, HasFound, HasSet, SeatSeen}
 use Rattle.interrupt_ctx.specs.Views.{Knows, interruption}
-use Rattle.interrupt_ctx.specs.declared.why.Why.{Why}
+use Rattle.interrupt_ctx.specs.declared.why.Stop.{Stop}
 use Rattle.tee_prints.specs.Printed.{MustStop}
 use Rattle.tee_pump.specs.declared.pump.Pump.{Pump}
 use Rattle.tee_pump.specs.Branches.{AreHired, SharedSeen}
@@ -23,22 +23,22 @@ use Rattle.tee_pump.proofs.Printing.{cause_stays, told_cause}
 
 -- the seat is interrupted where it must stop, which is a cause
 pub seat_stops : (board : BoardSeen) (n : ℕ) (C D must : Type 0) (a b : SeatSeen) → IsSeat board n C a → StopsWhere must a b → (must → D) → (C → D) → IsSeat board n D b
-seat_stops board n C D must a b h (inl (m, i)) new old = record { board_is = i.board_is ∙ h.board_is; first = i.first ∙ h.first; out = i.out ∙ h.out; caused = λ why c. new m }
-seat_stops board n C D must a b h (inr (non, e)) new old = subst (λ s. IsSeat board n D s) (sym e) (record { board_is = h.board_is; first = h.first; out = h.out; caused = λ why c. old (h.caused why c) })
+seat_stops board n C D must a b h (inl (m, i)) new old = record { board_is = i.board_is ∙ h.board_is; first = i.first ∙ h.first; out = i.out ∙ h.out; caused = λ stop c. new m }
+seat_stops board n C D must a b h (inr (non, e)) new old = subst (λ s. IsSeat board n D s) (sym e) (record { board_is = h.board_is; first = h.first; out = h.out; caused = λ stop c. old (h.caused stop c) })
 
 pub stopped_where : (must : Type 0) (a b : SeatSeen) → StopsWhere must a b → must → IsStopped b
 stopped_where must a b (inl (m, i)) h = i.stopped
 stopped_where must a b (inr (non, e)) h = absurd (non h)
 
 -- whoever set it, the run is interrupted
-pub set_stops : (a c : SeatSeen) (why : Why) (b : Bool) (X : Why → Type 0) → OnTrue b (HasSet a c 0 why) → OnFalse b ((there : Why) × HasFound a c 0 there × X there) → Interrupts a c
-set_stops a c why true X t f = record {
+pub set_stops : (a c : SeatSeen) (stop : Stop) (b : Bool) (X : Stop → Type 0) → OnTrue b (HasSet a c 0 stop) → OnFalse b ((there : Stop) × HasFound a c 0 there × X there) → Interrupts a c
+set_stops a c stop true X t f = record {
   board_is = ap (λ (s : SeatSeen). s.board) t;
   first = ap (λ (s : SeatSeen). s.view.first) t;
   out = ap (λ (s : SeatSeen). s.view.out) t;
-  stopped = (why, subst (λ (s : SeatSeen). Knows s.view 0 why) (sym t) (inl (among_last a.view.set (interruption 0 why))));
+  stopped = (stop, subst (λ (s : SeatSeen). Knows s.view 0 stop) (sym t) (inl (among_last a.view.set (interruption 0 stop))));
 }
-set_stops a c why false X t f = record {
+set_stops a c stop false X t f = record {
   board_is = ap (λ (s : SeatSeen). s.board) f.1;
   first = ap (λ (s : SeatSeen). s.view.first) f.1;
   out = ap (λ (s : SeatSeen). s.view.out) f.1;
@@ -77,7 +77,7 @@ module _ {F : Type 0} (StandsFor : F → Meaning → List Element → Type 0) (C
     hired = subst (λ v. AreHired StandsFor Comes s ms v.items) (sym c) h.hired;
     printing = subst (λ v. IsPrinting s.hub (length ms) start now v) (sym a) h.printing;
     context = h.context;
-    seat = record { board_is = i.board_is ∙ h.seat.board_is; first = i.first ∙ h.seat.first; out = i.out ∙ h.seat.out; caused = λ why m. inr early };
+    seat = record { board_is = i.board_is ∙ h.seat.board_is; first = i.first ∙ h.seat.first; out = i.out ∙ h.seat.out; caused = λ stop m. inr early };
     obeyed = λ m. i.stopped;
     none_told = ap (λ (e : Vec How Global). e.items) d ∙ h.none_told;
     room = subst (λ (e : Vec How Global). length ms ≤ vec_capacity e) (sym d) h.room;

@@ -11,7 +11,7 @@ use Rattle.channel_bounded.specs.declared.message.Msg.{Msg}
 use Rattle.interrupt_ctx.specs.Ends.{SeatSeen}
 use Rattle.interrupt_ctx.specs.Views.{HasSetAll, Knows}
 use Rattle.interrupt_ctx.specs.declared.view.View.{View}
-use Rattle.interrupt_ctx.specs.declared.why.Why.{Why}
+use Rattle.interrupt_ctx.specs.declared.why.Stop.{Stop}
 use Rattle.pull_nodes.specs.Plain.{IsFront}
 use Rattle.tee_branches.specs.Stands.{HasEnded}
 use Rattle.tee_texts.specs.Texts.{AreTexts, end_message}
@@ -27,7 +27,7 @@ pub record IsSettled (i : ℕ) (m : Meaning) (all : List Body) (got : List Msg) 
   pub ended : HasEnded i m seen received said how
   pub queued : List Msg
   pub whole : IsWhole i (said ++ end_message i how ∷ []) got queued
-  pub knows : (why : Why) → Knows seen 0 why → Knows view 0 why
+  pub knows : (stop : Stop) → Knows seen 0 stop → Knows view 0 stop
 
 -- each of the branches from k on
 abbrev pub AreSettledFrom : ℕ → List Meaning → List Body → List Msg → View → Type 0
@@ -53,5 +53,5 @@ pub record JoinsSeat (a b : SeatSeen) : Type 0 where
   pub first : b.view.first ≡ a.view.first
   pub out : b.view.out ≡ a.view.out - 1
   pub set : b.view.set ≡ a.view.set
-  pub knows : (why : Why) → Knows a.view 0 why → Knows b.view 0 why
+  pub knows : (stop : Stop) → Knows a.view 0 stop → Knows b.view 0 stop
   pub all : b.view.out ≡ 0 → HasSetAll b.view

@@ -5,7 +5,7 @@ use Rattle.chunk_core.specs.declared.code.How.{How}
 use Rattle.chunk_core.specs.declared.code.How.TheVariants as how
 use Rattle.interrupt_ctx.specs.Ends.{BoardSeen, SeatSeen}
 use Rattle.interrupt_ctx.specs.Views.{Knows, interruption}
-use Rattle.interrupt_ctx.specs.declared.why.Why.{Why}
+use Rattle.interrupt_ctx.specs.declared.why.Stop.{Stop}
 
 -- the reader wasn't done
 abbrev pub IsEarly : How → Type 0
@@ -19,11 +19,11 @@ pub record IsSeat (board : BoardSeen) (n : ℕ) (Cause : Type 0) (seat : SeatSee
   pub board_is : seat.board ≡ board.id
   pub first : seat.view.first ≡ true
   pub out : seat.view.out ≡ n
-  pub caused : (why : Why) → IsAmong (interruption 0 why) seat.view.set → Cause
+  pub caused : (stop : Stop) → IsAmong (interruption 0 stop) seat.view.set → Cause
 
 -- the seat knows that the run is interrupted
 abbrev pub IsStopped : SeatSeen → Type 0
-IsStopped seat = (why : Why) × Knows seat.view 0 why
+IsStopped seat = (stop : Stop) × Knows seat.view 0 stop
 
 -- the run is interrupted from now on
 pub record Interrupts (a b : SeatSeen) : Type 0 where

@@ -13,7 +13,7 @@ ghost use Rattle.tee_pump.specs.Stopping.{Interrupts, IsEarly, StopsWhere};
 use crate::pieces::Pieces;
 use chunk_core::{Feed, How};
 use device_port::{Gate, Sink};
-use interrupt_ctx::{Board, BoardSeat, Why};
+use interrupt_ctx::{Board, BoardSeat, Stop, Why};
 use std::collections::VecDeque;
 use std::sync::Wait;
 use std::thread::Scope;
@@ -94,7 +94,7 @@ pub(crate) fn interrupt(board: &Board, seat: &mut BoardSeat, why: Why)
     requires board { (seat.old.board ≡ board.now.id) × (0 < board.now.contexts) }
     ensures { Interrupts seat.old seat.new }
 {
-    seat.set(board, 0, why);
+    seat.set(board, 0, Stop { why, at: 0 });
 }
 
 /// Interrupts the run where a write failed, or where a branch found a fault or no memory.

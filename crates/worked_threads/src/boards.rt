@@ -1,13 +1,23 @@
 //! Boards of interruption: that the calls do what they say where memory is there, and that two threads
 //! may set and look at once.
-ghost use Rattle.std.specs.Prelude.{◌≡◌, ◌≤◌, ◌<◌, length, true};
+ghost use Rattle.std.specs.Prelude.{◌≡◌, ◌^◌, ◌≤◌, ◌<◌, length, true};
 
 use crate::asserts::{holds, same};
-use interrupt_ctx::{Board, BoardSeat, Why};
+use interrupt_ctx::{Board, BoardSeat, Stop, Why};
 use std::alloc::{AllocError, Global};
 use std::process::Abort;
 use std::test::Fail;
 use std::thread;
+
+/// The last place in a ledger that a board keeps.
+const LAST: u64 = 1_152_921_504_606_846_975;
+
+/// So interrupted, behind that much of the ledger.
+fn stop_at_last(why: Why) -> Stop
+    ensures { result.at < 2 ^ 60 }
+{
+    Stop { why, at: LAST }
+}
 
 /// Interrupts a context, and fails the test unless the answer is this.
 fn sets(rt: &impl Abort, board: &Board, seat: &mut BoardSeat, context: u32, why: Why, want: bool)
@@ -16,7 +26,7 @@ fn sets(rt: &impl Abort, board: &Board, seat: &mut BoardSeat, context: u32, why:
     ensures board { seat.new.board ≡ seat.old.board }
     ensures first { seat.new.view.first ≡ seat.old.view.first }
 {
-    let was_set = seat.set(board, context, why);
+    let was_set = seat.set(board, context, stop_at_last(why));
     same(rt, (context, was_set), (context, want));
 }
 
@@ -28,6 +38,10 @@ fn finds(rt: &impl Abort, board: &Board, seat: &mut BoardSeat, context: u32, wan
     ensures first { seat.new.view.first ≡ seat.old.view.first }
 {
     let found = seat.look(board, context);
+    let want = match want {
+        Some(why) => Some(stop_at_last(why)),
+        None => None,
+    };
     same(rt, (context, found), (context, want));
 }
 
@@ -77,7 +91,7 @@ fn race(
     let mut was_first = Vec::new(alloc);
     let mut stays = true;
     for k in 0..CONTEXTS {
-        was_first.push(seat.set(board, k + 1, why))?;
+        was_first.push(seat.set(board, k + 1, stop_at_last(why)))?;
         let seen = seat.look(board, k + 1);
         let again = seat.look(board, k + 1);
         stays = stays && seen.is_some() && seen == again;

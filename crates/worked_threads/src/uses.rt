@@ -7,7 +7,7 @@ use device_port::{Device, Gate};
 use interrupt_ctx::BoardRef;
 use pull_nodes::PipeState;
 use pull_stepper::Held;
-use row_seat::RowSeat;
+use row_seat::{MarksFront, RowSeat};
 use row_shared::SharesDesk;
 use std::sync::Wait;
 use std::thread;
@@ -27,7 +27,7 @@ pub struct Hired<S: RowSeat, V, F: PipeState, A: May> {
 /// Two jobs at once, each with a worker of its own, from which they come back.
 pub fn run_both<
     A: May + Send + Sync,
-    S: SharesDesk + RowSeat<Pay = Held<V>> + Drop + Send,
+    S: SharesDesk + MarksFront + RowSeat<Pay = Held<V>> + Drop + Send,
     V: Device + Drop + Send,
     F: PipeState + Send,
     R: Threads + Wait + Sync,
@@ -39,6 +39,7 @@ pub fn run_both<
 ) -> (Job<S, V, F>, Job<S, V, F>)
 where
     S::Desk: Drop + Send,
+    S::Mark: Drop + Send,
     F::Tables: Drop + Send,
     requires first { IsReady S.view F.values V.told (standing F.stands F.comes) S.fits A.may first.job first.desk first.hub first.board }
     requires second { IsReady S.view F.values V.told (standing F.stands F.comes) S.fits A.may second.job second.desk second.hub second.board }

@@ -1,4 +1,5 @@
 use Rattle.join_tale.proofs.Ending.{ends, ends_late}
+use Rattle.join_tale.proofs.Heeding.{heeds}
 use Rattle.join_tale.proofs.Growing.{marked_caused, marked_known}
 use Rattle.join_tale.proofs.Receiving.{drops, fails, lacks, meets, writes}
 use Rattle.join_tale.proofs.Steps.{begins, learns, outer_ends, skips, starts, starts_met, wants}
@@ -9,17 +10,18 @@ use Rattle.join_tale.proofs.laws.steps_keep_tale.Goals as goal
 pub returns-clause-steps : goal.returns-clause-steps
 returns-clause-steps c bounds = record {
   starts = starts bounds;
-  starts_met = starts_met bounds;
+  starts_met = λ w vs cs is mark. starts_met bounds vs cs is mark;
   learns = λ t vs cs i new. learns bounds t i vs cs new;
+  heeds = λ t os i. heeds bounds t i os;
   houses = houses bounds;
   pulls = pulls bounds;
   begins = begins bounds;
   skips = skips bounds;
-  wants = λ t vs cs mark i. wants bounds t i vs cs mark;
+  wants = λ t w vs cs is mark i. wants bounds t i vs cs is mark;
   writes = λ t k x i c o full doesnt. writes bounds t k x i o full c doesnt;
-  meets = λ t k x vs cs mark i c o full does. meets bounds t k x i o full vs cs mark c does;
-  fails = λ t k x vs cs mark i c o full. fails bounds t k x i o full vs cs mark c;
-  lacks = λ t k x vs cs mark i c o full. lacks bounds t k x i o full vs cs mark c;
+  meets = λ t k x w vs cs is mark i c o full does. meets bounds t k x i o full vs cs is mark c does;
+  fails = λ t k x w vs cs is mark i c o full. fails bounds t k x i o full vs cs is mark c;
+  lacks = λ t k x w vs cs is mark i c o full. lacks bounds t k x i o full vs cs is mark c;
   drops = λ t k x i c o full. drops bounds t k x i o full c;
   ends = λ t k h vs cs i c o tells. ends bounds t k h vs cs i o c tells;
   ends_late = λ t k h vs cs i c o tells. ends_late bounds t k h vs cs i o c tells;

@@ -14,4 +14,4 @@ spawn_with-started-requires-send-F g c κs within = search (sendable, held.the_s
 
 -- what the closure holds that came back is what was given to the thread
 pub spawn_with-job-requires : goal.spawn_with-job-requires
-spawn_with-job-requires g c κs within = (within.0, (within.1.0, (within.1.1.0, (within.1.1.1.0, (within.1.1.1.1.0, (within.1.1.1.1.1.0, (within.1.1.1.1.1.1.0, (within.1.1.1.1.1.1.1, rw c.in-Err.ensures.err (record { job = c.requires.job; fits_desk = c.requires.fits; place = c.requires.at; may_send = c.requires.may })))))))))
+spawn_with-job-requires g c κs within = (within.0, (within.1.0, (within.1.1.0, (within.1.1.1.0, (within.1.1.1.1.0, (within.1.1.1.1.1.0, (within.1.1.1.1.1.1.0, (within.1.1.1.1.1.1.1.0, (within.1.1.1.1.1.1.1.1, rw c.in-Err.ensures.err (record { job = c.requires.job; fits_desk = c.requires.fits; place = c.requires.at; may_send = c.requires.may }))))))))))

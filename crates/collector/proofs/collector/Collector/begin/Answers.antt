@@ -33,6 +33,7 @@ use Rattle.collector.specs.Trees.{waiting_of}
 use Rattle.collector.specs.declared.collector.Collector.{Collector}
 use Rattle.collector.proofs.Beginning.{has_room}
 use Rattle.collector.proofs.Begun.{begin_step}
+use Rattle.collector.proofs.Queued.{may_send}
 use Rattle.collector.proofs.Steps.{below, counted, few_out, its_lease, split_at, still_step}
 use Rattle.collector.proofs.Streams.{is_fresh}
 use Rattle.collector.proofs.Telling.{outer_done}
@@ -153,6 +154,9 @@ begin-open-requires-clause-fits g c κs within =
     job_on view values told P fits j c.args.desk.now c.args.own.desk c.requires.own
     (job_back view values told P fits stays _ j m.job a.tree.seat Outer c.args.desk.now c.split_off.new.desk k.fits_desk.seat e.others
     (job_back view values told P fits stays _ j m.job c.split_off.new.tree.seat (Inner a.next) c.split_off.new.desk c.job_of-job.new.desk e.fits.seat c.job_of-job.ensures.others m.fits_desk))
+
+pub begin-open-requires-clause-may : goal.begin-open-requires-clause-may
+begin-open-requires-clause-may g c κs within sent m number full got queued few whole filled = may_send m full got queued filled
 
 pub miss-requires-clause-collecting : goal.miss-requires-clause-collecting
 miss-requires-clause-collecting g c κs within =

@@ -15,4 +15,5 @@ returns-clause-closes g c =
       rows = e.rows;
       gives = e.gives;
       events = e.events;
+      called = e.called;
     }

@@ -14,6 +14,9 @@ use Rattle.collector.specs.declared.collector.Collector.{Collector}
 use Rattle.collector.proofs.Drawn.{came, pulled_by, source_of}
 use Rattle.collector.proofs.Lists.{map_length}
 use Rattle.collector.proofs.OuterSteps.{more_may, surely_done, tells_stop}
+use Rattle.dealt_streams.proofs.Placing.{placed_none}
+use Rattle.scope_tree.specs.Trees.{seen}
+use Rattle.collector.proofs.Placed.{outer_within, placed_stop}
 use Rattle.collector.proofs.Pulling.{leased_step, over_step}
 use Rattle.collector.proofs.Standing.{none_some}
 use Rattle.collector.proofs.Telling.{learns_none, tells_done}
@@ -64,7 +67,12 @@ skip-requires-clause-collecting g c =
     let mk = e.marks in
     let new = g.D.Depot.told c.pull.new.depot in
     let z = c.stop.new.self in
-    let over = over_step k turn.1 c.requires.outer pl.keeps pl.rows o z.tree z.stops z.report c.stop.new.desk mk.0 mk.1 e.closes e.fits (λ s ne f. e.others s ne (u.others s ne f)) e.report mk.3 e.seated (tells_stop c.args.plan.now c.in-Over.how c.in-Some.why (sym c.in-Some.ensures) k.tale mk.0 mk.1 mk.2) in
+    let h = c.in-Over.how in
+    let cause = sym c.in-Some.ensures ∙ ap Some (sym mk.1) in
+    let i = mk.3 in
+    let b = seen g.S.RowSeat.view z.tree in
+    let over = over_step k turn.1 c.requires.outer pl.keeps pl.rows o z.tree z.stops z.report c.stop.new.desk i.0 i.1 e.closes e.fits (λ s ne f. e.others s ne (u.others s ne f)) e.report i.3 e.seated (tells_stop c.args.plan.now h mk.0 cause k.tale i.0 i.1 i.2)
+    (λ q notes. placed_stop (plan_bounds c.args.plan.now) b q k.tale h mk.0 i.0 i.1 cause i.2 (outer_within b q h mk.0.at notes mk.2)) in
     let stopped = subst (λ (x : Collector _ _ _ _ _). IsCollecting M c.args.plan.now d0 s0 (between 1 new sink c.stop.new.desk x)) (sym e.same) (more_may over 1 c.requires.waits (λ n. none_some c.in-Over.how (sym n))) in
     (c.args.plan.now, new, sink, (d0, s0, stopped))
 
@@ -112,7 +120,12 @@ returns-in-Some-clause-collecting g c sink d0 s0 was =
     let mk = e.marks in
     let new = g.D.Depot.told c.pull.new.depot in
     let z = c.stop.new.self in
-    let over = over_step k turn.1 c.requires.outer pl.keeps pl.rows o z.tree z.stops z.report c.stop.new.desk mk.0 mk.1 e.closes e.fits (λ s ne f. e.others s ne (u.others s ne f)) e.report mk.3 e.seated (tells_stop c.args.plan.now c.in-Over.how c.in-Some.why (sym c.in-Some.ensures) k.tale mk.0 mk.1 mk.2) in
+    let h = c.in-Over.how in
+    let cause = sym c.in-Some.ensures ∙ ap Some (sym mk.1) in
+    let i = mk.3 in
+    let b = seen g.S.RowSeat.view z.tree in
+    let over = over_step k turn.1 c.requires.outer pl.keeps pl.rows o z.tree z.stops z.report c.stop.new.desk i.0 i.1 e.closes e.fits (λ s ne f. e.others s ne (u.others s ne f)) e.report i.3 e.seated (tells_stop c.args.plan.now h mk.0 cause k.tale i.0 i.1 i.2)
+    (λ q notes. placed_stop (plan_bounds c.args.plan.now) b q k.tale h mk.0 i.0 i.1 cause i.2 (outer_within b q h mk.0.at notes mk.2)) in
     let stopped = subst (λ (x : Collector _ _ _ _ _). IsCollecting M c.args.plan.now d0 s0 (between 1 new sink c.stop.new.desk x)) (sym e.same) (more_may over 1 c.requires.waits (λ n. none_some c.in-Over.how (sym n))) in
     let skipped = c.skip.ensures.collecting c.args.plan.now new sink d0 s0 stopped in
     more_may skipped (1 + length a.waiting.items) (omega arith) (λ n. none_some c.in-Over.how (sym n ∙ (c.skip.ensures.outer ∙ ap (λ (x : Collector _ _ _ _ _). x.outer) e.same)))
@@ -133,5 +146,5 @@ returns-in-None-clause-collecting g c sink d0 s0 was =
     let done = surely_done h o.unhalted (sym c.in-None.ensures) in
     let tells = subst (λ i. TellsOuter (plan_bounds p) (learned (outer_ended k.tale i) [] []) i []) (sym done) (tells_done p (learned (outer_ended k.tale how.Done) [] [])) in
     let z = c.close.new.self in
-    let over = over_step k turn.1 c.requires.outer pl.keeps pl.rows o z.tree a.stops z.report c.close.new.desk [] [] e.closes e.fits (λ s ne f. e.others s ne (u.others s ne f)) e.report (learns_none a.stops) k.telling.seated tells in
+    let over = over_step k turn.1 c.requires.outer pl.keeps pl.rows o z.tree a.stops z.report c.close.new.desk [] [] e.closes e.fits (λ s ne f. e.others s ne (u.others s ne f)) e.report (learns_none a.stops) k.telling.seated tells (λ q notes. placed_none (plan_bounds p) (seen g.S.RowSeat.view z.tree) q (learned (outer_ended k.tale h) [] [])) in
     subst (λ (x : Collector _ _ _ _ _). IsCollecting M p d0 s0 (between (1 + length a.waiting.items) (g.D.Depot.told c.pull.new.depot) sink c.close.new.desk x)) (sym e.same) (more_may over (1 + length a.waiting.items) (omega arith) (λ n. none_some h (sym n)))

@@ -60,6 +60,6 @@ returns g c = record {
       let y : Leftover _ = record { shelf = c.new.result; unopened = c.args.unopened } in
       let left = c.push_reserved.new.self in
       subst (λ (x : Collector _ _ _ _ _). IsCollecting (members g.S.RowSeat.view g.V.Device.told g.S.RowSeat.fits g.F.PipeState.values (standing g.F.Feed.stands g.F.Feed.comes)) c.args.plan.now d0 s0 (between 1 now sink c.pass_over.new.desk (record x { left = left }))) (sym e.same)
-      (miss_step (between 2 before sink c.args.desk.now a) k c.pass_over.new.self.tree c.interrupt.new.self c.miss.new.self left c.pass_over.new.desk i.marks.0 i.marks.1 now c.args.unopened y s e.passes e.fits e.others i.marks.2 i.marks.3 i.seated c.miss.ensures is made c.new.ensures refl
+      (miss_step (between 2 before sink c.args.desk.now a) k c.pass_over.new.self.tree c.interrupt.new.self c.miss.new.self left c.pass_over.new.desk i.marks.0 i.marks.1 now c.args.unopened y s e.passes e.fits e.others refl i.marks.2 i.marks.3 i.seated c.miss.ensures is made c.new.ensures refl
       (q.items ∙ ap (λ (x : Collector _ _ _ _ _). x.left.items ++ y ∷ []) e.same) (q.capacity ∙ ap (λ (x : Collector _ _ _ _ _). vec_capacity x.left) e.same) 1 (omega (arith, few)) (λ n l. c.requires.ahead n));
 }

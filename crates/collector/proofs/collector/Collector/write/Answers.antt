@@ -1,4 +1,5 @@
 -- A load was written, or came too late.
+use Rattle.std.proofs.Common.{refl}
 use Rattle.collector.proofs.LoadTaken.{full_elements, has_stream, load_stopped, load_taken, room_while, some_context}
 use Rattle.collector.proofs.collector.Collector.write.Goals as goal
 
@@ -20,7 +21,7 @@ interrupt-requires-clause-context g c = let q = c.requires.collecting in some_co
 pub returns-in-Some : goal.returns-in-Some
 returns-in-Some g c = record {
   collecting = λ p depot d had h d0 s0 i.
-      load_stopped i c.args.stream c.args.load.now c.args.self.now.receiver h (g.K.Sink.told c.write.new.out) c.write.new.self c.write.result c.write.ensures c.in-Some.why c.interrupt.new.self c.in-Some.is c.interrupt.ensures.marks c.interrupt.ensures.seated;
+      load_stopped i c.args.stream c.args.load.now c.args.self.now.receiver h (g.K.Sink.told c.write.new.out) c.write.new.self c.write.result c.write.ensures c.in-Some.why (record { why = c.in-Some.why; at = 0 }) c.interrupt.new.self c.in-Some.is refl c.interrupt.ensures.marks c.interrupt.ensures.seated;
 }
 
 pub returns-in-None : goal.returns-in-None

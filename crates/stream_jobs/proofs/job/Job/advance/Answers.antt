@@ -29,7 +29,7 @@ returns-clause-job g c w h =
     let full : IfSome message IsFullMessage = news_full x.stream m.behind.how m.load message m.says (load_full P told (stepping view values x.stepper) m.behind (option_or m.looked.view.last.own m.looked.view.last.root) m.load m.obeys) in
     let before : HasLearned w.stream w.board a.board None = subst (λ s. HasLearned w.stream w.board a.board (ended_at s)) (some_same a.stage h.stage (stage.Running x) h.stage_is q) h.learned in
     job_on view values told P w a _ c.advance-stage.result.stage h c.requires.none refl refl c.fill.ensures waits full (c.advance-stage.ensures.stands w (a.sender.sent ++ held a.waiting) r)
-    (c.advance-stage.ensures.learned w (a.sender.sent ++ held a.waiting) r before)
+    (c.advance-stage.ensures.learned w (a.sender.sent ++ held a.waiting) r before) (c.advance-stage.ensures.places w (a.sender.sent ++ held a.waiting) r before)
 
 pub returns-clause-others : goal.returns-clause-others
 returns-clause-others g c =

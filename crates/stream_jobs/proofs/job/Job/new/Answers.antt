@@ -27,6 +27,7 @@ returns-clause-job g c = record {
     said_is = ap (λ xs. xs ++ []) c.requires.sender.1;
   };
   learned = learns_nothing c.args.stream c.args.board c.requires.seat.0 c.requires.seat.1;
+  places = tt;
 }
 
 pub returns-clause-fits : goal.returns-clause-fits
